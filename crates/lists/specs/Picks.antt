@@ -1,0 +1,60 @@
+-- The indices below n at which a test holds, ascending, and the loop that lists them.
+use mathlib.Core.Path.{_≡_, refl, ap, sym, subst, _∙_}
+use mathlib.Core.Bool.{Bool, true, false, cond}
+use mathlib.Core.List.{List, [], _∷_, _++_, append-nil}
+use Prim.Native.Nat.{ℕ, zero, suc, _+_, _-_, _≤_, _<_}
+use native.Mathlib.Nat.{le-refl, le-trans}
+use native.Mathlib.Numerals.{add-one}
+use native.Mathlib.Decide.{le-ind}
+use native.Mathlib.Omega.{arith}
+use lib.ListN.{length, length-append, set}
+use Rattle.lists.specs.Splice.{splice, Filled, filled-none, filled-push}
+
+unfoldable pub picks : (ℕ → Bool) → ℕ → List ℕ
+picks f zero = []
+picks f (suc n) = picks f n ++ cond (f n) (n ∷ []) []
+
+module _ (f : ℕ → Bool) where
+  pub picks-yes : (n : ℕ) → f n ≡ true → picks f (n + 1) ≡ picks f n ++ (n ∷ [])
+  unfolding picks
+  picks-yes n e = rw (add-one, e)
+
+  pub picks-no : (n : ℕ) → f n ≡ false → picks f (n + 1) ≡ picks f n
+  unfolding picks
+  picks-no n e = rw (add-one, e, append-nil)
+
+  -- more indices, no fewer picks
+  pub picks-mono : (i n : ℕ) → i ≤ n → length (picks f i) ≤ length (picks f n)
+  unfolding picks
+  picks-mono i n h =
+      le-ind (λ (m : ℕ). length (picks f i) ≤ length (picks f m)) (le-refl _)
+      (λ m k e. le-trans e (simp length-append (omega arith))) n h
+
+-- the loop: k indices passed, j picks listed at the front of out
+pub record Listing (f : ℕ → Bool) (n : ℕ) (out₀ : List ℕ) (k j : ℕ) (out : List ℕ) : Type 0 where
+  pub passed : k ≤ n
+  pub listed : Filled out₀ j (picks f k) out
+
+pub listing-none : (f : ℕ → Bool) (n : ℕ) (out : List ℕ) → Listing f n out 0 0 out
+unfolding picks
+listing-none f n out = record { passed = omega arith; listed = filled-none out }
+
+module _ {f : ℕ → Bool} {n : ℕ} {out₀ : List ℕ} {k j : ℕ} {out : List ℕ} (l : Listing f n out₀ k j out) where
+  pub listing-no : k < n → f k ≡ false → Listing f n out₀ (k + 1) j out
+  listing-no h e = record { passed = omega arith; listed = rw (picks-no f k e) (l .listed) }
+
+  -- there is room for one more
+  pub listing-room : length (picks f n) ≤ length out₀ → k < n → f k ≡ true → j < length out₀
+  listing-room r h e =
+      omega (arith, picks-mono f (k + 1) n (omega arith), ap length (picks-yes f k e), length-append (picks f k) (k ∷ []), l .listed .size)
+
+  pub listing-yes : length (picks f n) ≤ length out₀ → k < n → f k ≡ true → Listing f n out₀ (k + 1) (j + 1) (set out j k)
+  listing-yes r h e =
+      record { passed = omega arith; listed = rw (picks-yes f k e) (filled-push k (l .listed) (listing-room r h e)) }
+
+pub listing-all : {f : ℕ → Bool} {n : ℕ} {out₀ : List ℕ} {k j : ℕ} {out : List ℕ} → Listing f n out₀ k j out → n ≤ k → (j ≡ length (picks f n)) × (out ≡ splice out₀ 0 (picks f n))
+listing-all {f} {n} {out₀} {k} {j} {out} l h =
+    let e : k ≡ n = omega (arith, l .passed) in (
+      sym (l .listed .size) ∙ ap (λ (m : ℕ). length (picks f m)) e,
+      l .listed .eq ∙ ap (λ (m : ℕ). splice out₀ 0 (picks f m)) e,
+    )

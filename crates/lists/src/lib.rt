@@ -1,0 +1,1 @@
+// Definitions and laws over lists and indices (see specs/). There are no functions.

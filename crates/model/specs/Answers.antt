@@ -1,0 +1,50 @@
+-- Document 01, "Answers other than done": refusals, and the order in which they are tested.
+use Prim.Native.Nat.{ℕ, zero, suc, _/_, _%_}
+use mathlib.Core.Bool.{Bool, true, false, cond, not, _&&_, _||_}
+use mathlib.Core.List.{List, [], _∷_, _++_}
+use mathlib.Core.Option.{Option, none, some}
+use lib.Dec.{eqb, leb, ltb}
+use lib.ListN.{length}
+use Rattle.model.specs.Objects.{Shape}
+use Rattle.model.specs.Slot.{slotSize, mostSlots}
+use Rattle.model.specs.Rules.{lowestBad}
+
+-- a number of the table, with the offset that it tells
+pub record Refusal : Type 0 where
+  pub number : ℕ
+  pub offset : Option ℕ
+
+-- a call's answer: done, with a value, or a refusal
+pub data Answer (A : Type 0) : Type 0 where
+  done : A → Answer A
+  refused : Refusal → Answer A
+
+-- a test of the "Order" paragraph: the refusal n where b holds
+abbrev pub refuse : ℕ → Bool → Option Refusal
+refuse n b = cond b (some (record { number = n; offset = none })) none
+
+-- the same where an offset was found, which it tells
+abbrev pub refuseAt : ℕ → Option ℕ → Option Refusal
+refuseAt n none = none
+refuseAt n (some o) = some (record { number = n; offset = some o })
+
+-- the first of the tests that refuses
+abbrev pub firstOf : List (Option Refusal) → Option Refusal
+firstOf [] = none
+firstOf (none ∷ ts) = firstOf ts
+firstOf (some r ∷ ts) = some r
+
+abbrev pub answer : {A : Type 0} → Option Refusal → A → Answer A
+answer none a = done a
+answer (some r) a = refused r
+
+abbrev pub slots : List ℕ → ℕ
+slots bytes = length bytes / slotSize
+
+-- 1 frame: "length not whole slots, over 131,072 slots, or tail above the slots"
+abbrev pub badFrame : List ℕ → ℕ → Bool
+badFrame bytes tail = not (eqb (length bytes % slotSize) 0) || ltb mostSlots (slots bytes) || ltb (slots bytes) tail
+
+-- 1 and 2, with which every call on a log begins
+abbrev pub frameAndEntries : Shape → List ℕ → ℕ → List (Option Refusal)
+frameAndEntries sh bytes tail = refuse 1 (badFrame bytes tail) ∷ refuseAt 2 (lowestBad sh bytes tail) ∷ []

@@ -1,0 +1,14 @@
+pub mod Objects
+pub mod Entries
+pub mod Slot
+pub mod Rules
+pub mod Table
+pub mod Play
+pub mod Answers
+pub mod Reading
+pub mod Append
+pub mod Replica
+pub mod Run
+pub mod Claims
+pub mod Report
+pub mod Worked

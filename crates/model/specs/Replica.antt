@@ -1,0 +1,160 @@
+-- The calls on a replica: opening fresh and at a checkpoint, play, cell reading; and the audit.
+use Prim.Native.Nat.{ℕ, zero, suc, _+_, _-_}
+use mathlib.Core.Bool.{Bool, true, false, cond, not, _&&_, _||_, Bool·beq}
+use mathlib.Core.List.{List, [], _∷_, _++_, map}
+use mathlib.Core.Option.{Option, none, some}
+use lib.Dec.{eqb, leb, ltb}
+use lib.ListN.{length}
+use Rattle.lists.specs.Sets.{mem}
+use Rattle.model.specs.Objects.{Shape, ids, isObject, isCell, hosted, setOf, everything}
+use Rattle.model.specs.Entries.{Held, Saved, Claim, Entry, plain, numbered, commit, decision, checkpoint, blank, Effect, writes, aside, tries, inert, effect, Log}
+use Rattle.model.specs.Slot.{logOf}
+use Rattle.model.specs.Rules.{lowest}
+use Rattle.model.specs.Table.{Cell, Holds, cellsOf, tableWith, capacity, lookup, cellOf, savedOf}
+use Rattle.model.specs.Play.{Played, going, waits, lacks, cellsIn, commitsOver, play}
+use Rattle.model.specs.Answers.{Refusal, Answer, done, refused, refuse, refuseAt, firstOf, answer, frameAndEntries}
+use Rattle.model.specs.Append.{Replica, badRecord, badReplica}
+
+-- a replica's record and table as a call leaves them, with its answer
+pub record Left : Type 0 where
+  pub answer : Answer (Unit {0})
+  pub replica : Replica
+  pub table : List ℕ
+
+abbrev pub plainly : ℕ → Answer (Unit {0})
+plainly n = refused (record { number = n; offset = none })
+
+-- a record at position p with these cells, and its table
+abbrev pub leftWith : Answer (Unit {0}) → ℕ → ℕ → List ℕ → List Cell → Left
+leftWith a set p table cells = record { answer = a; replica = record { hosting = set; position = p; count = length cells }; table = tableWith table cells }
+
+-- the record of a call that is refused and opens nothing
+abbrev pub noReplica : Replica
+noReplica = record { hosting = 0; position = 0; count = 0 }
+
+-- Opening fresh: 10.
+unfoldable pub openFresh : ℕ → Answer Replica
+openFresh set = answer (refuse 10 (eqb set 0)) (record { hosting = set; position = 0; count = 0 })
+
+abbrev pub isCheckpoint : Entry → Bool
+isCheckpoint (plain ws) = false
+isCheckpoint (numbered n ws) = false
+isCheckpoint (commit n c) = false
+isCheckpoint (decision o v) = false
+isCheckpoint (checkpoint o cs) = true
+isCheckpoint blank = false
+
+-- "A replica opened at a checkpoint hosts that object alone": the object and cells of a checkpoint
+abbrev pub savedObject : Entry → ℕ
+savedObject (plain ws) = 0
+savedObject (numbered n ws) = 0
+savedObject (commit n c) = 0
+savedObject (decision o v) = 0
+savedObject (checkpoint o cs) = o
+savedObject blank = 0
+
+abbrev pub savedCells : Entry → List Cell
+savedCells (plain ws) = []
+savedCells (numbered n ws) = []
+savedCells (commit n c) = []
+savedCells (decision o v) = []
+savedCells (checkpoint o cs) = map (λ (c : Saved). cellOf o c.key c.held) cs
+savedCells blank = []
+
+-- Opening at a checkpoint: 1, 2, 3, 13.
+abbrev pub openRefusal : Shape → List ℕ → ℕ → ℕ → List ℕ → Option Refusal
+openRefusal sh bytes tail o table = firstOf (frameAndEntries sh bytes tail
+    ++ (refuse 3 (leb tail o || not (isCheckpoint (logOf bytes tail .entry o)))
+    ∷ refuse 13 (ltb (capacity table) (length (savedCells (logOf bytes tail .entry o)))) ∷ []))
+
+-- "from the next offset, its cells in key order"
+abbrev pub openGiven : Shape → ℕ → List ℕ → Entry → Option Refusal → Left
+openGiven sh o table e none = leftWith (done tt) (setOf sh (savedObject e)) (o + 1) table (savedCells e)
+openGiven sh o table e (some r) = record { answer = refused r; replica = noReplica; table = table }
+
+unfoldable pub openAt : Shape → List ℕ → ℕ → ℕ → List ℕ → Left
+openAt sh bytes tail o table = openGiven sh o table (logOf bytes tail .entry o) (openRefusal sh bytes tail o table)
+
+-- 3: "a stop below the replica's position", or a stop above the tail
+abbrev pub badStop : ℕ → Replica → ℕ → Bool
+badStop tail r stop = ltb tail stop || ltb stop (r .position)
+
+-- Play: 1, 2, 10, 3, then at an entry 12 before 13.
+abbrev pub playRefusal : Shape → List ℕ → ℕ → Replica → List ℕ → ℕ → Option Refusal
+playRefusal sh bytes tail r table stop = firstOf (frameAndEntries sh bytes tail
+    ++ (refuse 10 (badReplica tail r table) ∷ refuse 3 (badStop tail r stop) ∷ []))
+
+-- "done means that the replica is there"; 12 and 13: the replica at that entry
+abbrev pub leftBy : ℕ → ℕ → List ℕ → Played → Left
+leftBy set stop table (going cs) = leftWith (done tt) set stop table cs
+leftBy set stop table (waits q cs) = leftWith (plainly 12) set q table cs
+leftBy set stop table (lacks q cs) = leftWith (plainly 13) set q table cs
+
+abbrev pub playGiven : Replica → ℕ → List ℕ → Played → Option Refusal → Left
+playGiven r stop table p none = leftBy (r .hosting) stop table p
+playGiven r stop table p (some x) = record { answer = refused x; replica = r; table = table }
+
+abbrev pub playFrom : Shape → Log → Replica → List ℕ → ℕ → Played
+playFrom sh log r table stop = play log (hosted sh (r .hosting)) (capacity table) (r .position) (cellsOf table (r .count)) (stop - r .position)
+
+unfoldable pub playCall : Shape → List ℕ → ℕ → Replica → List ℕ → ℕ → Left
+playCall sh bytes tail r table stop = playGiven r stop table (playFrom sh (logOf bytes tail) r table stop) (playRefusal sh bytes tail r table stop)
+
+-- Cell reading: 10 (no tail is given, so position is not tested), then 3. None where the cell was never written.
+unfoldable pub readCell : Shape → Replica → List ℕ → ℕ → ℕ → Answer (Option Held)
+readCell sh r table o k =
+    answer (firstOf (refuse 10 (badRecord r table) ∷ refuse 3 (not (mem o (hosted sh (r .hosting)) && isCell sh o k)) ∷ []))
+    (lookup (cellsOf table (r .count)) o k)
+
+-- "The audit hosts everything and plays from 0 over a lent scratch table"
+abbrev pub auditPlay : Shape → Log → ℕ → ℕ → Played
+auditPlay sh log room p = play log (ids sh) room 0 [] p
+
+-- whether the commit record commits over these cells
+abbrev pub commitsThere : Holds → Effect → Bool
+commitsThere cells (writes ws) = false
+commitsThere cells (aside n ws) = false
+commitsThere cells (tries n c) = commitsOver cells c
+commitsThere cells inert = false
+
+-- equal lists of a checkpoint's cells
+abbrev pub sameContent : Option ℕ → Option ℕ → Bool
+sameContent none none = true
+sameContent none (some y) = false
+sameContent (some x) none = false
+sameContent (some x) (some y) = eqb x y
+
+abbrev pub sameSaved : List Saved → List Saved → Bool
+sameSaved [] [] = true
+sameSaved [] (d ∷ ds) = false
+sameSaved (c ∷ cs) [] = false
+sameSaved (c ∷ cs) (d ∷ ds) = eqb c.key d.key && eqb c.held.version d.held.version && sameContent c.held.content d.held.content && sameSaved cs ds
+
+-- "a decision or checkpoint is not as played": a decision is judged at its commit record, a checkpoint at itself
+abbrev pub asPlayed : Shape → Log → ℕ → ℕ → Entry → Bool
+asPlayed sh log room p (plain ws) = true
+asPlayed sh log room p (numbered n ws) = true
+asPlayed sh log room p (commit n c) = true
+asPlayed sh log room p (decision o v) = Bool·beq (eqb v 1) (commitsThere (lookup (cellsIn (auditPlay sh log room o))) (effect (log .entry o)))
+asPlayed sh log room p (checkpoint o cs) = sameSaved cs (savedOf o (cellsIn (auditPlay sh log room p)))
+asPlayed sh log room p blank = true
+
+abbrev pub lowestFalse : Shape → Log → ℕ → Option ℕ
+lowestFalse sh log room = lowest (λ p. not (asPlayed sh log room p (log .entry p))) (log .tail)
+
+-- Audit: 1, 2, 13, 11. The scratch table is left as played; 13 tells its offset.
+abbrev pub auditLeft : ℕ → ℕ → List ℕ → Option ℕ → Played → Left
+auditLeft set tail table f (going cs) = leftWith (answer (refuseAt 11 f) tt) set tail table cs
+auditLeft set tail table f (waits q cs) = leftWith (plainly 12) set q table cs
+auditLeft set tail table f (lacks q cs) = leftWith (answer (refuseAt 13 (some q)) tt) set q table cs
+
+abbrev pub auditGiven : ℕ → ℕ → List ℕ → Option ℕ → Played → Option Refusal → Left
+auditGiven set tail table f p none = auditLeft set tail table f p
+auditGiven set tail table f p (some r) = record { answer = refused r; replica = noReplica; table = table }
+
+unfoldable pub audit : Shape → List ℕ → ℕ → List ℕ → Left
+audit sh bytes tail table =
+    auditGiven (everything sh) tail table
+    (lowestFalse sh (logOf bytes tail) (capacity table))
+    (auditPlay sh (logOf bytes tail) (capacity table) tail)
+    (firstOf (frameAndEntries sh bytes tail))

@@ -1,0 +1,66 @@
+-- Document 01, "The one-by-one run": fed each append's arguments in order, and whether it was refused.
+-- It has a test of reads and a stamping of versions of its own, and shares neither with the player.
+use Prim.Native.Nat.{ℕ, zero, suc, _+_}
+use mathlib.Core.Bool.{Bool, true, false, cond, not, _&&_, _||_}
+use mathlib.Core.List.{List, [], _∷_, _++_}
+use mathlib.Core.Option.{Option, none, some}
+use lib.Dec.{eqb}
+use Rattle.model.specs.Entries.{Write, Read, Claim, Held, contentOf}
+use Rattle.model.specs.Table.{Holds}
+use Rattle.model.specs.Append.{Request, update, commits, decides, saves, writesGiven, claimGiven}
+
+-- "an append's arguments .., and whether it was refused"
+pub record Fed : Type 0 where
+  pub request : Request
+  pub wasRefused : Bool
+
+-- the count of accepted appends, the cells, and the writes set aside under each number
+pub record Run : Type 0 where
+  pub count : ℕ
+  pub cells : Holds
+  pub aside : ℕ → List Write
+
+-- "It starts with count 0, all cells never written and no writes set aside."
+abbrev pub start : Run
+start = record { count = 0; cells = λ o k. none; aside = λ n. [] }
+
+-- a cell's version in the run: 0 where it was never written
+abbrev pub hasVersion : ℕ → Option Held → Bool
+hasVersion v none = eqb v 0
+hasVersion v (some h) = eqb v h.version
+
+-- "reads all have their cells' versions"
+abbrev pub current : Holds → List Read → Bool
+current cells [] = true
+current cells (r ∷ rs) = hasVersion (r .version) (cells (r .object) (r .key)) && current cells rs
+
+-- one write made, with the count as version
+abbrev pub written : ℕ → Write → Holds → Holds
+written count w cells o k = cond (eqb w.object o && eqb w.key k) (some (record { version = count; content = contentOf w })) (cells o k)
+
+-- "makes its writes in order, with the count as version"
+abbrev pub madeAll : ℕ → List Write → Holds → Holds
+madeAll count [] cells = cells
+madeAll count (w ∷ ws) cells = madeAll count ws (written count w cells)
+
+-- "sets them aside after its number's earlier ones"
+abbrev pub setAside : ℕ → List Write → (ℕ → List Write) → ℕ → List Write
+setAside n ws before m = cond (eqb n m) (before m ++ ws) (before m)
+
+-- an accepted append at the count it raised
+unfoldable pub accept : ℕ → Run → Request → Run
+accept count s (update n items) = cond (eqb n 0)
+    (record { count = count; cells = madeAll count (writesGiven items) (s .cells); aside = s .aside })
+    (record { count = count; cells = s .cells; aside = setAside n (writesGiven items) (s .aside) })
+accept count s (commits n items) = record {
+  count = count;
+  cells = cond (current (s .cells) (claimGiven items .reads)) (madeAll count (s .aside n) (s .cells)) (s .cells);
+  aside = s .aside;
+}
+accept count s (decides o v) = record { count = count; cells = s .cells; aside = s .aside }
+accept count s (saves r table o) = record { count = count; cells = s .cells; aside = s .aside }
+
+-- what the run had at count p: "A refused append changes nothing; any other first adds 1 to the count."
+unfoldable pub runAt : ℕ → Run → List Fed → Run
+runAt p s [] = s
+runAt p s (f ∷ fs) = cond (f .wasRefused) (runAt p s fs) (cond (eqb (s .count) p) s (runAt p (accept (s .count + 1) s (f .request)) fs))

@@ -1,0 +1,89 @@
+-- Document 01, "Playing": the table's cells, and what a cell holds.
+use Prim.Native.Nat.{ℕ, zero, suc, _+_, _*_, _/_}
+use mathlib.Core.Bool.{Bool, true, false, cond, not, _&&_, _||_}
+use mathlib.Core.List.{List, [], _∷_, _++_}
+use mathlib.Core.Option.{Option, none, some}
+use lib.Dec.{eqb, ltb}
+use lib.ListN.{length, drop}
+use Rattle.lists.specs.Bytes.{beAt, bytesOf}
+use Rattle.lists.specs.Rows.{values, joined}
+use Rattle.lists.specs.Sets.{mem}
+use Rattle.model.specs.Entries.{Write, Held, Saved, contentOf}
+use Rattle.model.specs.Slot.{valueField}
+
+-- "A table cell is 24 bytes: object 4, key 4, value 4 (0 if removed), present 4 (1 or 0), version 8": as stored, of any value
+pub record Cell : Type 0 where
+  pub object : ℕ
+  pub key : ℕ
+  pub value : ℕ
+  pub present : ℕ
+  pub version : ℕ
+
+abbrev pub cellSize : ℕ
+cellSize = 24
+
+unfoldable pub cellAt : List ℕ → ℕ → Cell
+cellAt t i = record { object = beAt 4 t i; key = beAt 4 t (i + 4); value = beAt 4 t (i + 8); present = beAt 4 t (i + 12); version = beAt 8 t (i + 16) }
+
+unfoldable pub cellBytes : Cell → List ℕ
+cellBytes c = bytesOf 4 (c .object) ++ bytesOf 4 (c .key) ++ bytesOf 4 (c .value) ++ bytesOf 4 (c .present) ++ bytesOf 8 (c .version)
+
+-- the counted cells of a table
+unfoldable pub cellsOf : List ℕ → ℕ → List Cell
+cellsOf table count = values (λ i. cellAt table (cellSize * i)) 0 count
+
+-- a table with these cells: "Bytes past the counted cells are not touched."
+unfoldable pub tableWith : List ℕ → List Cell → List ℕ
+tableWith table cells = joined cellBytes cells ++ drop (cellSize * length cells) table
+
+-- "Capacity is the length divided by 24, rounded down."
+abbrev pub capacity : List ℕ → ℕ
+capacity table = length table / cellSize
+
+-- What each cell of the objects holds, by object and key; none where it was never written.
+abbrev pub Holds : Type 0
+Holds = ℕ → ℕ → Option Held
+
+abbrev pub isOf : ℕ → ℕ → Cell → Bool
+isOf o k c = eqb c.object o && eqb c.key k
+
+-- "a present field other than 1 means removed, and the value is then taken as 0"
+abbrev pub heldBy : Cell → Held
+heldBy c = record { version = c .version; content = cond (eqb c.present 1) (some (c .value)) none }
+
+-- "If a caller's table has a cell twice, the first counts"
+abbrev pub lookup : List Cell → Holds
+lookup [] o k = none
+lookup (c ∷ cs) o k = cond (isOf o k c) (some (heldBy c)) (lookup cs o k)
+
+abbrev pub presentField : Option ℕ → ℕ
+presentField none = 0
+presentField (some v) = 1
+
+abbrev pub cellOf : ℕ → ℕ → Held → Cell
+cellOf o k h = record { object = o; key = k; value = valueField (h .content); present = presentField (h .content); version = h .version }
+
+-- a cell written: in its place, or as the last, "in order of first writing"
+abbrev pub store : List Cell → ℕ → ℕ → Held → List Cell
+store [] o k h = cellOf o k h ∷ []
+store (c ∷ cs) o k h = cond (isOf o k c) (cellOf o k h ∷ cs) (c ∷ store cs o k h)
+
+-- the hosted writes made in order, with one version; "A later write to the same cell wins"
+unfoldable pub apply : List ℕ → ℕ → List Write → List Cell → List Cell
+apply set v [] cs = cs
+apply set v (w ∷ ws) cs = apply set v ws (cond (mem w.object set) (store cs w.object w.key (record { version = v; content = contentOf w })) cs)
+
+-- "A removed cell has a version; only a never written one has 0."
+abbrev pub versionIn : Option Held → ℕ
+versionIn none = 0
+versionIn (some h) = h .version
+
+-- a checkpoint's cell put into a list that ascends by key, in place of one with the same key
+abbrev pub insertSaved : Saved → List Saved → List Saved
+insertSaved c [] = c ∷ []
+insertSaved c (d ∷ ds) = cond (ltb c.key d.key) (c ∷ d ∷ ds) (cond (eqb c.key d.key) (c ∷ ds) (d ∷ insertSaved c ds))
+
+-- the cells of object o ever written, ascending by key; of a cell that is there twice, the first
+unfoldable pub savedOf : ℕ → List Cell → List Saved
+savedOf o [] = []
+savedOf o (c ∷ cs) = cond (eqb c.object o) (insertSaved (record { key = c .key; held = heldBy c }) (savedOf o cs)) (savedOf o cs)

@@ -1,0 +1,128 @@
+-- Document 01, "Worked logs": the lines marked (P) as one table, and one fact that covers all its rows.
+use Prim.Native.Nat.{ℕ, zero, suc, _+_, _*_}
+use mathlib.Core.Path.{_≡_, refl}
+use mathlib.Core.Bool.{Bool, true, false, cond, not, _&&_, _||_, Bool·beq}
+use mathlib.Core.List.{List, [], _∷_, _++_}
+use mathlib.Core.Option.{Option, none, some}
+use lib.Dec.{eqb}
+use lib.ListN.{length, take, drop, replicate}
+use Rattle.lists.specs.Bytes.{beAt, bytesOf}
+use Rattle.lists.specs.Splice.{splice}
+use Rattle.lists.specs.Rows.{values, joined}
+use Rattle.lists.specs.First.{first, firstFrom}
+use Rattle.lists.specs.Equal.{eqList}
+use Rattle.lists.specs.Sets.{all}
+use Rattle.model.specs.Objects.{depots}
+use Rattle.model.specs.Entries.{Write, Read, Held, Entry, plain, Log, writesOf, closed, decided, headerObjects, numberOf, earlier}
+use Rattle.model.specs.Slot.{writeBytes, writeAt, readBytes, readAt, savedBytes, savedAt, itemBytes, itemCount, headerOf, slotOf, decode, slot, used}
+use Rattle.model.specs.Rules.{okEntry, lowest, lowestBad}
+use Rattle.model.specs.Table.{Cell, cellAt, cellBytes, cellsOf, tableWith, apply, savedOf, cellOf}
+use Rattle.model.specs.Play.{play, commitsOver}
+use Rattle.model.specs.Answers.{Answer, done, refused}
+use Rattle.model.specs.Append.{Replica, Request, update, commits, decides, saves, entryOf, ownTests, append}
+use Rattle.model.specs.Replica.{Left, playCall, audit, openAt, openFresh}
+use Rattle.model.specs.Report.{Outcome, Report, outcomes, report}
+use Rattle.model.specs.Claims.{Lent, empty, grown}
+
+-- Arguments of appends, as bytes.
+abbrev pub put : ℕ → ℕ → ℕ → List ℕ
+put o k v = writeBytes (record { object = o; key = k; operation = 1; value = v })
+
+abbrev pub remove : ℕ → ℕ → List ℕ
+remove o k = writeBytes (record { object = o; key = k; operation = 2; value = 0 })
+
+abbrev pub read : ℕ → ℕ → ℕ → List ℕ
+read o k v = readBytes (record { object = o; key = k; version = v })
+
+-- the log that these appends leave in n slots of any bytes (here 7)
+abbrev pub logBy : ℕ → List Request → Lent
+logBy n qs = grown depots (empty (replicate (256 * n) 7)) qs
+
+-- "Bench log, object 2, key 7", with the read version of entry 3
+abbrev pub bench : ℕ → List Request
+bench v = update 0 (put 2 7 43) ∷ update 9 (put 2 7 42) ∷ update 10 (put 2 7 40) ∷ commits 9 (read 2 7 v) ∷ commits 10 (read 2 7 1) ∷ []
+
+-- a log whose entries are all of object 1, but the one at 0, of object 2
+abbrev pub sparse : Log
+sparse = record { entry = λ o. plain (record { object = cond (eqb o 0) 2 1; key = 7; operation = 1; value = 43 } ∷ []); tail = 70000 }
+
+-- The table's rows.
+pub data Row : Type 0 where
+  -- the appends, an offset, and the 12 bytes of the entry's first header
+  header : List Request → ℕ → List ℕ → Row
+  -- an offset, and the 12 bytes of object 2's header there, its only earlier entry being 0
+  far : ℕ → List ℕ → Row
+  -- the appends, the bytes of the table, and what the audit answers and prints
+  audited : List Request → ℕ → ℕ → List Outcome → List Cell → Row
+  -- the appends, a hosted set, the bytes of the table, and the answer, position and cells of a play to the tail
+  player : List Request → ℕ → ℕ → ℕ → ℕ → List Cell → Row
+
+-- 0 for done, else the number of a refusal
+abbrev pub code : {A : Type 0} → Answer A → ℕ
+code (done a) = 0
+code (refused r) = r .number
+
+abbrev pub sameOutcomes : List Outcome → List Outcome → Bool
+sameOutcomes [] [] = true
+sameOutcomes [] (y ∷ ys) = false
+sameOutcomes (x ∷ xs) [] = false
+sameOutcomes (x ∷ xs) (y ∷ ys) = eqb x.offset y.offset && eqb x.number y.number && Bool·beq x.commits y.commits && sameOutcomes xs ys
+
+abbrev pub sameCells : List Cell → List Cell → Bool
+sameCells cs ds = eqList (joined cellBytes cs) (joined cellBytes ds)
+
+-- a fresh replica of this set played to the tail over a table of n bytes
+abbrev pub freshTo : Lent → ℕ → ℕ → Left
+freshTo l set n = playCall depots (l .bytes) (l .tail) (record { hosting = set; position = 0; count = 0 }) (replicate n 7) (l .tail)
+
+abbrev pub leftIs : Left → ℕ → ℕ → List Cell → Bool
+leftIs x c p cs = eqb (code (x .answer)) c && eqb (x .replica .position) p && sameCells (cellsOf (x .table) (x .replica .count)) cs
+
+pub rowHolds : Row → Bool
+rowHolds (header qs o h) = let l = logBy 6 qs in eqList (take 12 (drop 8 (slot (l .bytes) o))) h
+rowHolds (far p h) = eqList (headerOf sparse p 2) h
+rowHolds (audited qs n c os cs) =
+    let l = logBy 6 qs in
+    let a = audit depots (l .bytes) (l .tail) (replicate n 7) in
+    let r = report depots (l .bytes) (l .tail) (replicate n 7) in
+    eqb (code (a .answer)) c && eqb (a .replica .position) (length qs) && sameOutcomes (r .commits) os && sameCells (r .cells) cs
+rowHolds (player qs set n c p cs) = let l = logBy 6 qs in leftIs (freshTo l set n) c p cs
+
+abbrev pub line : ℕ → ℕ → Bool → Outcome
+line o n b = record { offset = o; number = n; commits = b }
+
+abbrev pub cell : ℕ → ℕ → Option ℕ → ℕ → Cell
+cell o k c v = cellOf o k (record { version = v; content = c })
+
+abbrev only5 : List Request
+only5 = update 9 (put 5 1 6) ∷ commits 9 (read 2 7 0) ∷ []
+
+abbrev pub rows : List Row
+unfolding only5
+rows =
+    -- "Empty log: audit passes, no cells."
+    audited [] 48 0 [] []
+    -- "Bench entry 0: distances 0 0 0 0." "Entry 4: 1 2 3 4." "A sixth entry of object 2, at 5: 1 2 3 4."
+    ∷ header (bench 1) 0 (0 ∷ 0 ∷ 0 ∷ 2 ∷ 0 ∷ 0 ∷ 0 ∷ 0 ∷ 0 ∷ 0 ∷ 0 ∷ 0 ∷ [])
+    ∷ header (bench 1) 4 (0 ∷ 0 ∷ 0 ∷ 2 ∷ 0 ∷ 1 ∷ 0 ∷ 2 ∷ 0 ∷ 3 ∷ 0 ∷ 4 ∷ [])
+    ∷ header (bench 1 ++ (update 0 (put 2 7 1) ∷ [])) 5 (0 ∷ 0 ∷ 0 ∷ 2 ∷ 0 ∷ 1 ∷ 0 ∷ 2 ∷ 0 ∷ 3 ∷ 0 ∷ 4 ∷ [])
+    -- "Entry 65,535, only earlier entry 0: format 0, FF FF then zeros (hex)." "Entry 65,536: format 1, offset 0."
+    ∷ far 65535 (0 ∷ 0 ∷ 0 ∷ 2 ∷ 0xFF ∷ 0xFF ∷ 0 ∷ 0 ∷ 0 ∷ 0 ∷ 0 ∷ 0 ∷ [])
+    ∷ far 65536 (0x80 ∷ 0 ∷ 0 ∷ 2 ∷ 0 ∷ 0 ∷ 0 ∷ 0 ∷ 0 ∷ 0 ∷ 0 ∷ 0 ∷ [])
+    -- "Bench log as printed." "With read version 0 at entry 3: 9 aborts, 10 commits, value 40, version 5."
+    ∷ audited (bench 1) 48 0 (line 3 9 true ∷ line 4 10 false ∷ []) (cell 2 7 (some 42) 4 ∷ [])
+    ∷ audited (bench 0) 48 0 (line 3 9 false ∷ line 4 10 true ∷ []) (cell 2 7 (some 40) 5 ∷ [])
+    -- "Put at 0, remove at 1: removed, version 2; a read with version 0 aborts."
+    ∷ audited (update 0 (put 2 7 43) ∷ update 0 (remove 2 7) ∷ update 9 (put 2 7 1) ∷ commits 9 (read 2 7 0) ∷ []) 48 0
+    (line 3 9 false ∷ []) (cell 2 7 none 2 ∷ [])
+    -- "Hosting object 5, a commit reading (2,7) and writing (5,1): 12." "With its decision above: played."
+    ∷ player only5 16 48 12 1 []
+    ∷ player (only5 ++ (decides 1 1 ∷ [])) 16 48 0 3 (cell 5 1 (some 6) 2 ∷ [])
+    -- "Table of 23 bytes: 13 at offset 0 of the bench log; 24 bytes: done."
+    ∷ player (bench 1) 2 23 13 0 []
+    ∷ player (bench 1) 2 24 0 5 (cell 2 7 (some 42) 4 ∷ [])
+    ∷ []
+
+pub worked : all rowHolds rows ≡ true
+unfolding rowHolds beAt bytesOf splice values joined first firstFrom eqList writesOf closed decided headerObjects numberOf earlier writeBytes writeAt readBytes readAt savedBytes savedAt itemBytes itemCount headerOf slotOf decode slot used okEntry lowest lowestBad cellAt cellBytes cellsOf tableWith apply savedOf play commitsOver entryOf ownTests append playCall audit outcomes report grown
+worked = refl
