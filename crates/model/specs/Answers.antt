@@ -4,8 +4,8 @@ use mathlib.Core.Bool.{Bool, true, false, cond, not, _&&_, _||_}
 use mathlib.Core.List.{List, [], _∷_, _++_}
 use mathlib.Core.Option.{Option, none, some}
 use lib.Dec.{eqb, leb, ltb}
-use lib.ListN.{length}
 use Rattle.model.specs.Objects.{Shape}
+use Rattle.model.specs.Entries.{Log}
 use Rattle.model.specs.Slot.{slotSize, mostSlots}
 use Rattle.model.specs.Rules.{lowestBad}
 
@@ -38,13 +38,13 @@ abbrev pub answer : {A : Type 0} → Option Refusal → A → Answer A
 answer none a = done a
 answer (some r) a = refused r
 
-abbrev pub slots : List ℕ → ℕ
-slots bytes = length bytes / slotSize
+abbrev pub slots : Log → ℕ
+slots log = log .size / slotSize
 
 -- 1 frame: "length not whole slots, over 131,072 slots, or tail above the slots"
-abbrev pub badFrame : List ℕ → ℕ → Bool
-badFrame bytes tail = not (eqb (length bytes % slotSize) 0) || ltb mostSlots (slots bytes) || ltb (slots bytes) tail
+abbrev pub badFrame : Log → Bool
+badFrame log = not (eqb (log .size % slotSize) 0) || ltb mostSlots (slots log) || ltb (slots log) (log .tail)
 
 -- 1 and 2, with which every call on a log begins
-abbrev pub frameAndEntries : Shape → List ℕ → ℕ → List (Option Refusal)
-frameAndEntries sh bytes tail = refuse 1 (badFrame bytes tail) ∷ refuseAt 2 (lowestBad sh bytes tail) ∷ []
+abbrev pub frameAndEntries : Shape → Log → List (Option Refusal)
+frameAndEntries sh log = refuse 1 (badFrame log) ∷ refuseAt 2 (lowestBad sh log) ∷ []

@@ -12,3 +12,4 @@ pub mod Run
 pub mod Claims
 pub mod Report
 pub mod Worked
+pub mod Samples

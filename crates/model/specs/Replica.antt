@@ -7,7 +7,7 @@ use lib.Dec.{eqb, leb, ltb}
 use lib.ListN.{length}
 use Rattle.lists.specs.Sets.{mem}
 use Rattle.model.specs.Objects.{Shape, ids, isObject, isCell, hosted, setOf, everything}
-use Rattle.model.specs.Entries.{Held, Saved, Claim, Entry, plain, numbered, commit, decision, checkpoint, blank, Effect, writes, aside, tries, inert, effect, Log}
+use Rattle.model.specs.Entries.{Held, Saved, Claim, Entry, plain, numbered, commit, decision, checkpoint, blank, Log, commitAt, ifSome, isNone}
 use Rattle.model.specs.Slot.{logOf}
 use Rattle.model.specs.Rules.{lowest}
 use Rattle.model.specs.Table.{Cell, Holds, cellsOf, tableWith, capacity, lookup, cellOf, savedOf}
@@ -36,53 +36,46 @@ noReplica = record { hosting = 0; position = 0; count = 0 }
 unfoldable pub openFresh : ℕ → Answer Replica
 openFresh set = answer (refuse 10 (eqb set 0)) (record { hosting = set; position = 0; count = 0 })
 
-abbrev pub isCheckpoint : Entry → Bool
-isCheckpoint (plain ws) = false
-isCheckpoint (numbered n ws) = false
-isCheckpoint (commit n c) = false
-isCheckpoint (decision o v) = false
-isCheckpoint (checkpoint o cs) = true
-isCheckpoint blank = false
+-- a checkpoint's object and cells; none for another entry
+pub record Checkpoint : Type 0 where
+  pub object : ℕ
+  pub cells : List Cell
 
--- "A replica opened at a checkpoint hosts that object alone": the object and cells of a checkpoint
-abbrev pub savedObject : Entry → ℕ
-savedObject (plain ws) = 0
-savedObject (numbered n ws) = 0
-savedObject (commit n c) = 0
-savedObject (decision o v) = 0
-savedObject (checkpoint o cs) = o
-savedObject blank = 0
-
-abbrev pub savedCells : Entry → List Cell
-savedCells (plain ws) = []
-savedCells (numbered n ws) = []
-savedCells (commit n c) = []
-savedCells (decision o v) = []
-savedCells (checkpoint o cs) = map (λ (c : Saved). cellOf o c.key c.held) cs
-savedCells blank = []
+abbrev pub checkpointIn : Entry → Option Checkpoint
+checkpointIn (plain ws) = none
+checkpointIn (numbered n ws) = none
+checkpointIn (commit n c) = none
+checkpointIn (decision o v) = none
+checkpointIn (checkpoint o cs) = some (record { object = o; cells = map (λ (c : Saved). cellOf o c.key c.held) cs })
+checkpointIn blank = none
 
 -- Opening at a checkpoint: 1, 2, 3, 13.
-abbrev pub openRefusal : Shape → List ℕ → ℕ → ℕ → List ℕ → Option Refusal
-openRefusal sh bytes tail o table = firstOf (frameAndEntries sh bytes tail
-    ++ (refuse 3 (leb tail o || not (isCheckpoint (logOf bytes tail .entry o)))
-    ∷ refuse 13 (ltb (capacity table) (length (savedCells (logOf bytes tail .entry o)))) ∷ []))
+abbrev pub openRefusal : Shape → Log → ℕ → List ℕ → Option Refusal
+openRefusal sh log o table = firstOf (frameAndEntries sh log
+    ++ (refuse 3 (leb (log .tail) o || isNone (checkpointIn (log .entry o)))
+    ∷ refuse 13 (ifSome (checkpointIn (log .entry o)) false (λ c. ltb (capacity table) (length (c .cells)))) ∷ []))
 
--- "from the next offset, its cells in key order"
-abbrev pub openGiven : Shape → ℕ → List ℕ → Entry → Option Refusal → Left
-openGiven sh o table e none = leftWith (done tt) (setOf sh (savedObject e)) (o + 1) table (savedCells e)
-openGiven sh o table e (some r) = record { answer = refused r; replica = noReplica; table = table }
+-- nothing opened, nothing changed
+abbrev pub unopened : Refusal → List ℕ → Left
+unopened r table = record { answer = refused r; replica = noReplica; table = table }
 
-unfoldable pub openAt : Shape → List ℕ → ℕ → ℕ → List ℕ → Left
-openAt sh bytes tail o table = openGiven sh o table (logOf bytes tail .entry o) (openRefusal sh bytes tail o table)
+-- "A replica opened at a checkpoint hosts that object alone, from the next offset, its cells in key order."
+abbrev pub openGiven : Shape → ℕ → List ℕ → Option Refusal → Option Checkpoint → Left
+openGiven sh o table (some r) c = unopened r table
+openGiven sh o table none none = unopened (record { number = 3; offset = none }) table
+openGiven sh o table none (some c) = leftWith (done tt) (setOf sh (c .object)) (o + 1) table (c .cells)
+
+unfoldable pub openAt : Shape → Log → ℕ → List ℕ → Left
+openAt sh log o table = openGiven sh o table (openRefusal sh log o table) (checkpointIn (log .entry o))
 
 -- 3: "a stop below the replica's position", or a stop above the tail
 abbrev pub badStop : ℕ → Replica → ℕ → Bool
 badStop tail r stop = ltb tail stop || ltb stop (r .position)
 
 -- Play: 1, 2, 10, 3, then at an entry 12 before 13.
-abbrev pub playRefusal : Shape → List ℕ → ℕ → Replica → List ℕ → ℕ → Option Refusal
-playRefusal sh bytes tail r table stop = firstOf (frameAndEntries sh bytes tail
-    ++ (refuse 10 (badReplica tail r table) ∷ refuse 3 (badStop tail r stop) ∷ []))
+abbrev pub playRefusal : Shape → Log → Replica → List ℕ → ℕ → Option Refusal
+playRefusal sh log r table stop = firstOf (frameAndEntries sh log
+    ++ (refuse 10 (badReplica (log .tail) r table) ∷ refuse 3 (badStop (log .tail) r stop) ∷ []))
 
 -- "done means that the replica is there"; 12 and 13: the replica at that entry
 abbrev pub leftBy : ℕ → ℕ → List ℕ → Played → Left
@@ -97,8 +90,8 @@ playGiven r stop table p (some x) = record { answer = refused x; replica = r; ta
 abbrev pub playFrom : Shape → Log → Replica → List ℕ → ℕ → Played
 playFrom sh log r table stop = play log (hosted sh (r .hosting)) (capacity table) (r .position) (cellsOf table (r .count)) (stop - r .position)
 
-unfoldable pub playCall : Shape → List ℕ → ℕ → Replica → List ℕ → ℕ → Left
-playCall sh bytes tail r table stop = playGiven r stop table (playFrom sh (logOf bytes tail) r table stop) (playRefusal sh bytes tail r table stop)
+unfoldable pub playCall : Shape → Log → Replica → List ℕ → ℕ → Left
+playCall sh log r table stop = playGiven r stop table (playFrom sh log r table stop) (playRefusal sh log r table stop)
 
 -- Cell reading: 10 (no tail is given, so position is not tested), then 3. None where the cell was never written.
 unfoldable pub readCell : Shape → Replica → List ℕ → ℕ → ℕ → Answer (Option Held)
@@ -110,12 +103,9 @@ readCell sh r table o k =
 abbrev pub auditPlay : Shape → Log → ℕ → ℕ → Played
 auditPlay sh log room p = play log (ids sh) room 0 [] p
 
--- whether the commit record commits over these cells
-abbrev pub commitsThere : Holds → Effect → Bool
-commitsThere cells (writes ws) = false
-commitsThere cells (aside n ws) = false
-commitsThere cells (tries n c) = commitsOver cells c
-commitsThere cells inert = false
+-- whether the commit record at p commits over the cells as played to it
+abbrev pub commitsThere : Shape → Log → ℕ → ℕ → Bool
+commitsThere sh log room p = ifSome (commitAt log p) false (λ c. commitsOver (lookup (cellsIn (auditPlay sh log room p))) (c .claim))
 
 -- equal lists of a checkpoint's cells
 abbrev pub sameContent : Option ℕ → Option ℕ → Bool
@@ -135,7 +125,7 @@ abbrev pub asPlayed : Shape → Log → ℕ → ℕ → Entry → Bool
 asPlayed sh log room p (plain ws) = true
 asPlayed sh log room p (numbered n ws) = true
 asPlayed sh log room p (commit n c) = true
-asPlayed sh log room p (decision o v) = Bool·beq (eqb v 1) (commitsThere (lookup (cellsIn (auditPlay sh log room o))) (effect (log .entry o)))
+asPlayed sh log room p (decision o v) = Bool·beq (eqb v 1) (commitsThere sh log room o)
 asPlayed sh log room p (checkpoint o cs) = sameSaved cs (savedOf o (cellsIn (auditPlay sh log room p)))
 asPlayed sh log room p blank = true
 
@@ -150,11 +140,11 @@ auditLeft set tail table f (lacks q cs) = leftWith (answer (refuseAt 13 (some q)
 
 abbrev pub auditGiven : ℕ → ℕ → List ℕ → Option ℕ → Played → Option Refusal → Left
 auditGiven set tail table f p none = auditLeft set tail table f p
-auditGiven set tail table f p (some r) = record { answer = refused r; replica = noReplica; table = table }
+auditGiven set tail table f p (some r) = unopened r table
 
-unfoldable pub audit : Shape → List ℕ → ℕ → List ℕ → Left
-audit sh bytes tail table =
-    auditGiven (everything sh) tail table
-    (lowestFalse sh (logOf bytes tail) (capacity table))
-    (auditPlay sh (logOf bytes tail) (capacity table) tail)
-    (firstOf (frameAndEntries sh bytes tail))
+unfoldable pub audit : Shape → Log → List ℕ → Left
+audit sh log table =
+    auditGiven (everything sh) (log .tail) table
+    (lowestFalse sh log (capacity table))
+    (auditPlay sh log (capacity table) (log .tail))
+    (firstOf (frameAndEntries sh log))

@@ -5,11 +5,10 @@ use mathlib.Core.List.{List, [], _∷_, _++_, map}
 use mathlib.Core.Option.{Option, none, some}
 use lib.ListN.{length}
 use Rattle.model.specs.Objects.{Object, Shape}
-use Rattle.model.specs.Entries.{Held, Saved, Effect, writes, aside, tries, inert, effect, Log}
-use Rattle.model.specs.Slot.{logOf}
-use Rattle.model.specs.Table.{Cell, Holds, capacity, lookup, cellOf, savedOf}
-use Rattle.model.specs.Play.{cellsIn, commitsOver}
-use Rattle.model.specs.Replica.{auditPlay}
+use Rattle.model.specs.Entries.{Saved, Log, commitAt, ifSome}
+use Rattle.model.specs.Table.{Cell, capacity, cellOf, savedOf}
+use Rattle.model.specs.Play.{cellsIn}
+use Rattle.model.specs.Replica.{auditPlay, commitsThere}
 
 -- a line "offset number outcome"
 pub record Outcome : Type 0 where
@@ -17,16 +16,11 @@ pub record Outcome : Type 0 where
   pub number : ℕ
   pub commits : Bool
 
-abbrev pub outcomeLine : Holds → ℕ → Effect → List Outcome
-outcomeLine cells p (writes ws) = []
-outcomeLine cells p (aside n ws) = []
-outcomeLine cells p (tries n c) = record { offset = p; number = n; commits = commitsOver cells c } ∷ []
-outcomeLine cells p inert = []
-
 -- the outcomes of the commit records below p, each at its turn
 unfoldable pub outcomes : Shape → Log → ℕ → ℕ → List Outcome
 outcomes sh log room zero = []
-outcomes sh log room (suc p) = outcomes sh log room p ++ outcomeLine (lookup (cellsIn (auditPlay sh log room p))) p (effect (log .entry p))
+outcomes sh log room (suc p) = outcomes sh log room p
+    ++ ifSome (commitAt log p) [] (λ c. record { offset = p; number = c .number; commits = commitsThere sh log room p } ∷ [])
 
 -- the cells of a table ascending by object, then key
 abbrev pub cellsInOrder : List Object → List Cell → List Cell
@@ -38,8 +32,8 @@ pub record Report : Type 0 where
   pub cells : List Cell
 
 -- what is printed of a log that passes the audit over this scratch table
-unfoldable pub report : Shape → List ℕ → ℕ → List ℕ → Report
-report sh bytes tail scratch = record {
-  commits = outcomes sh (logOf bytes tail) (capacity scratch) tail;
-  cells = cellsInOrder (sh .objects) (cellsIn (auditPlay sh (logOf bytes tail) (capacity scratch) tail));
+unfoldable pub report : Shape → Log → List ℕ → Report
+report sh log scratch = record {
+  commits = outcomes sh log (capacity scratch) (log .tail);
+  cells = cellsInOrder (sh .objects) (cellsIn (auditPlay sh log (capacity scratch) (log .tail)));
 }

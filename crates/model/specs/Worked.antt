@@ -13,8 +13,8 @@ use Rattle.lists.specs.First.{first, firstFrom}
 use Rattle.lists.specs.Equal.{eqList}
 use Rattle.lists.specs.Sets.{all}
 use Rattle.model.specs.Objects.{depots}
-use Rattle.model.specs.Entries.{Write, Read, Held, Entry, plain, Log, writesOf, closed, decided, headerObjects, numberOf, earlier}
-use Rattle.model.specs.Slot.{writeBytes, writeAt, readBytes, readAt, savedBytes, savedAt, itemBytes, itemCount, headerOf, slotOf, decode, slot, used}
+use Rattle.model.specs.Entries.{Write, Read, Held, Entry, checkpoint, Log, writesOf, closed, decided, headerObjects, numberOf, earlier}
+use Rattle.model.specs.Slot.{writeBytes, writeAt, readBytes, readAt, savedBytes, savedAt, itemBytes, itemCount, headerOf, slotOf, decode, slot, logIn}
 use Rattle.model.specs.Rules.{okEntry, lowest, lowestBad}
 use Rattle.model.specs.Table.{Cell, cellAt, cellBytes, cellsOf, tableWith, apply, savedOf, cellOf}
 use Rattle.model.specs.Play.{play, commitsOver}
@@ -22,7 +22,7 @@ use Rattle.model.specs.Answers.{Answer, done, refused}
 use Rattle.model.specs.Append.{Replica, Request, update, commits, decides, saves, entryOf, ownTests, append}
 use Rattle.model.specs.Replica.{Left, playCall, audit, openAt, openFresh}
 use Rattle.model.specs.Report.{Outcome, Report, outcomes, report}
-use Rattle.model.specs.Claims.{Lent, empty, grown}
+use Rattle.model.specs.Claims.{Lent, inLog, empty, grown}
 
 -- Arguments of appends, as bytes.
 abbrev pub put : ℕ → ℕ → ℕ → List ℕ
@@ -42,9 +42,9 @@ logBy n qs = grown depots (empty (replicate (256 * n) 7)) qs
 abbrev pub bench : ℕ → List Request
 bench v = update 0 (put 2 7 43) ∷ update 9 (put 2 7 42) ∷ update 10 (put 2 7 40) ∷ commits 9 (read 2 7 v) ∷ commits 10 (read 2 7 1) ∷ []
 
--- a log whose entries are all of object 1, but the one at 0, of object 2
+-- a log whose entry at 0 is of object 2, and every other of object 1
 abbrev pub sparse : Log
-sparse = record { entry = λ o. plain (record { object = cond (eqb o 0) 2 1; key = 7; operation = 1; value = 43 } ∷ []); tail = 70000 }
+sparse = record { size = 0; used = []; tail = 65537; entry = λ o. checkpoint (cond (eqb o 0) 2 1) [] }
 
 -- The table's rows.
 pub data Row : Type 0 where
@@ -73,7 +73,7 @@ sameCells cs ds = eqList (joined cellBytes cs) (joined cellBytes ds)
 
 -- a fresh replica of this set played to the tail over a table of n bytes
 abbrev pub freshTo : Lent → ℕ → ℕ → Left
-freshTo l set n = playCall depots (l .bytes) (l .tail) (record { hosting = set; position = 0; count = 0 }) (replicate n 7) (l .tail)
+freshTo l set n = playCall depots (inLog l) (record { hosting = set; position = 0; count = 0 }) (replicate n 7) (l .tail)
 
 abbrev pub leftIs : Left → ℕ → ℕ → List Cell → Bool
 leftIs x c p cs = eqb (code (x .answer)) c && eqb (x .replica .position) p && sameCells (cellsOf (x .table) (x .replica .count)) cs
@@ -83,8 +83,8 @@ rowHolds (header qs o h) = let l = logBy 6 qs in eqList (take 12 (drop 8 (slot (
 rowHolds (far p h) = eqList (headerOf sparse p 2) h
 rowHolds (audited qs n c os cs) =
     let l = logBy 6 qs in
-    let a = audit depots (l .bytes) (l .tail) (replicate n 7) in
-    let r = report depots (l .bytes) (l .tail) (replicate n 7) in
+    let a = audit depots (inLog l) (replicate n 7) in
+    let r = report depots (inLog l) (replicate n 7) in
     eqb (code (a .answer)) c && eqb (a .replica .position) (length qs) && sameOutcomes (r .commits) os && sameCells (r .cells) cs
 rowHolds (player qs set n c p cs) = let l = logBy 6 qs in leftIs (freshTo l set n) c p cs
 
@@ -124,5 +124,5 @@ rows =
     ∷ []
 
 pub worked : all rowHolds rows ≡ true
-unfolding rowHolds beAt bytesOf splice values joined first firstFrom eqList writesOf closed decided headerObjects numberOf earlier writeBytes writeAt readBytes readAt savedBytes savedAt itemBytes itemCount headerOf slotOf decode slot used okEntry lowest lowestBad cellAt cellBytes cellsOf tableWith apply savedOf play commitsOver entryOf ownTests append playCall audit outcomes report grown
+unfolding rowHolds beAt bytesOf splice values joined first firstFrom eqList writesOf closed decided headerObjects numberOf earlier writeBytes writeAt readBytes readAt savedBytes savedAt itemBytes itemCount headerOf slotOf decode slot logIn okEntry lowest lowestBad cellAt cellBytes cellsOf tableWith apply savedOf play commitsOver entryOf ownTests append playCall audit outcomes report grown
 worked = refl
