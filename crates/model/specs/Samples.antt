@@ -33,7 +33,6 @@ abbrev obj : ℕ → ObjectKind → ℕ → Bool → Object
 obj i t h m = record { id = i; kind = t; highest = h; marked = m }
 
 abbrev pub small : Shape
-unfolding obj
 small = record {
   objects = obj 1 aMap 2 true ∷ obj 2 aMap 9 false ∷ obj 3 aMap 2 true ∷ obj 4 aMap 2 true ∷ obj 5 aMap 2 false
       ∷ obj 6 aRegister 0 true ∷ obj 7 aRegister 0 false ∷ obj 8 aRegister 0 false ∷ [];

@@ -1,0 +1,6 @@
+// The leaves: integers in bytes, a type for each kind of number, marks, header words and hosted sets, the table of objects.
+pub mod bytes;
+pub mod marks;
+pub mod names;
+pub mod objects;
+pub mod words;
