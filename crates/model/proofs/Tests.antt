@@ -1,0 +1,34 @@
+-- Small laws of Boolean tests, by cases: what a true conjunction or a false disjunction says of its parts.
+use mathlib.Core.Path.{_≡_, refl, ap, ap₂, sym, _∙_}
+use mathlib.Core.Bool.{Bool, true, false, not, _&&_, _||_}
+use Prim.Native.Nat.{ℕ}
+use native.Mathlib.Omega.{arith}
+
+pub and-l : (a b : Bool) → (a && b) ≡ true → a ≡ true
+and-l true b e = refl
+and-l false b e = e
+
+pub and-r : (a b : Bool) → (a && b) ≡ true → b ≡ true
+and-r true b e = e
+and-r false b e = cc
+
+-- any part of a conjunction
+pub ruleset ands = (and-l, and-r)
+
+pub both : (a b : Bool) → a ≡ true → b ≡ true → (a && b) ≡ true
+both a b p q = ap₂ (λ (x y : Bool). x && y) p q
+
+pub or-l : (a b : Bool) → (a || b) ≡ false → a ≡ false
+or-l true b e = e
+or-l false b e = refl
+
+pub or-r : (a b : Bool) → (a || b) ≡ false → b ≡ false
+or-r true b e = cc
+or-r false b e = e
+
+-- any part of a disjunction
+pub ruleset ors = (or-l, or-r)
+
+-- a test that is true and false
+pub clash {ℓ} : {P : Type ℓ} (a : Bool) → a ≡ true → a ≡ false → P
+clash a p q = absurd (let z : _≡_ {A = ℕ} 0 1 = cc in omega arith)
