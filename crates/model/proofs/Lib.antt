@@ -1,3 +1,4 @@
 pub mod Tests
 pub mod Agree
 pub mod Depends
+pub mod Views
