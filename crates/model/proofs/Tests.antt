@@ -1,8 +1,10 @@
 -- Small laws of Boolean tests, by cases: what a true conjunction or a false disjunction says of its parts.
 use mathlib.Core.Path.{_≡_, refl, ap, ap₂, sym, _∙_}
 use mathlib.Core.Bool.{Bool, true, false, not, _&&_, _||_}
+use mathlib.Core.Option.{Option, none, some}
 use Prim.Native.Nat.{ℕ}
 use native.Mathlib.Omega.{arith}
+use Rattle.model.specs.Entries.{isNone}
 
 pub and-l : (a b : Bool) → (a && b) ≡ true → a ≡ true
 and-l true b e = refl
@@ -15,8 +17,8 @@ and-r false b e = cc
 -- any part of a conjunction
 pub ruleset ands = (and-l, and-r)
 
-pub both : (a b : Bool) → a ≡ true → b ≡ true → (a && b) ≡ true
-both a b p q = ap₂ (λ (x y : Bool). x && y) p q
+pub both : {a b : Bool} → a ≡ true → b ≡ true → (a && b) ≡ true
+both p q = ap₂ (λ (x y : Bool). x && y) p q
 
 pub or-l : (a b : Bool) → (a || b) ≡ false → a ≡ false
 or-l true b e = e
@@ -32,3 +34,7 @@ pub ruleset ors = (or-l, or-r)
 -- a test that is true and false
 pub clash {ℓ} : {P : Type ℓ} (a : Bool) → a ≡ true → a ≡ false → P
 clash a p q = absurd (let z : _≡_ {A = ℕ} 0 1 = cc in omega arith)
+
+-- something that is nothing
+pub not-none {ℓ} : {A : Type 0} {P : Type ℓ} (x : A) → some x ≡ none → P
+not-none x e = clash true refl (sym (ap isNone e))
