@@ -31,6 +31,9 @@ or-r false b e = e
 -- any part of a disjunction
 pub ruleset ors = (or-l, or-r)
 
+pub neither : {a b : Bool} → a ≡ false → b ≡ false → (a || b) ≡ false
+neither p q = ap₂ (λ (x y : Bool). x || y) p q
+
 -- a test that is true and false
 pub clash {ℓ} : {P : Type ℓ} (a : Bool) → a ≡ true → a ≡ false → P
 clash a p q = absurd (let z : _≡_ {A = ℕ} 0 1 = cc in omega arith)
