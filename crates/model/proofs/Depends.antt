@@ -2,22 +2,22 @@
 -- the log is read from those bytes, and the cells from the counted ones, so each call is given equal arguments.
 use Prim.Native.Nat.{ℕ, zero, suc, _+_, _*_, _<_, _≤_}
 use mathlib.Core.Path.{_≡_, refl, ap, ap₂, sym, _∙_}
-use mathlib.Core.List.{List, [], _∷_, _++_}
+use mathlib.Core.List.{List, [], _∷_}
 use mathlib.Core.Option.{Option, none, some}
 use native.Mathlib.Omega.{arith}
 use lib.ListN.{length, take, drop, getD, length-append}
 use lib.Seq.{getD-take, take-at, drop-at}
-use Rattle.lists.specs.Bytes.{beAt, bytesOf, beAt-same, length-bytesOf}
+use Rattle.lists.specs.Bytes.{beAt, beAt-same, length-bytesOf}
 use Rattle.lists.specs.Rows.{values, joined}
-use Rattle.model.specs.Objects.{Shape}
+use Rattle.model.specs.Objects.{Shape, everything}
 use Rattle.model.specs.Entries.{Log}
 use Rattle.model.specs.Slot.{slotOf, logIn, logOf}
-use Rattle.model.specs.Table.{Cell, cellAt, cellBytes, cellsOf, tableWith}
+use Rattle.model.specs.Table.{Cell, cellAt, cellBytes, cellsOf, tableWith, capacity}
 use Rattle.model.specs.Play.{Played, going, waits, lacks}
-use Rattle.model.specs.Answers.{Refusal}
+use Rattle.model.specs.Answers.{Refusal, Answer, firstOf, frameAndEntries}
 use Rattle.model.specs.Reading.{check, owed, entryCall, itemList, streamNext, streamList}
-use Rattle.model.specs.Append.{Replica, Request, saves, entryOf, ownTests, appendRefusal, Appended, appendGiven, append}
-use Rattle.model.specs.Replica.{Left, openAt, playFrom, playRefusal, playGiven, playCall, readCell, audit}
+use Rattle.model.specs.Append.{Replica, Request, saves, entryOf, ownTests, appendRefusal, appendGiven, append}
+use Rattle.model.specs.Replica.{Left, leftWith, Checkpoint, checkpointIn, openRefusal, openGiven, openAt, playFrom, playRefusal, playGiven, playCall, readCell, auditPlay, lowestFalse, auditGiven, audit}
 
 -- ---- the log
 
@@ -95,27 +95,68 @@ pub record LeftAlike (a b : Left) : Type 0 where
   pub replicas : a .replica ≡ b .replica
   pub counted : take (24 * a .replica .count) (a .table) ≡ take (24 * a .replica .count) (b .table)
 
-with-alike : (s t : List ℕ) (cs : List Cell) → take (24 * length cs) (tableWith s cs) ≡ take (24 * length cs) (tableWith t cs)
+-- what a call left past the counted cells is the caller's own
+abbrev pub RestKept : Left → List ℕ → Type 0
+RestKept a table = drop (24 * a .replica .count) (a .table) ≡ drop (24 * a .replica .count) table
+
+with-alike : (a : Answer (Unit {0})) (set p : ℕ) (s t : List ℕ) (cs : List Cell) → LeftAlike (leftWith a set p s cs) (leftWith a set p t cs)
 unfolding tableWith
-with-alike s t cs = take-at (joined cellBytes cs) _ _ (length-cells cs) ∙ sym (take-at (joined cellBytes cs) _ _ (length-cells cs))
+with-alike a set p s t cs = record {
+  answers = refl;
+  replicas = refl;
+  counted = take-at (joined cellBytes cs) _ _ (length-cells cs) ∙ sym (take-at (joined cellBytes cs) _ _ (length-cells cs));
+}
 
 with-rest : (t : List ℕ) (cs : List Cell) → drop (24 * length cs) (tableWith t cs) ≡ drop (24 * length cs) t
 unfolding tableWith
 with-rest t cs = drop-at (joined cellBytes cs) _ _ (length-cells cs)
 
-left-alike : (r : Replica) (stop : ℕ) (s t : List ℕ) (p : Played) (x : Option Refusal) → take (24 * r .count) s ≡ take (24 * r .count) t
-    → LeftAlike (playGiven r stop s p x) (playGiven r stop t p x)
-left-alike r stop s t (going cs) none e = record { answers = refl; replicas = refl; counted = with-alike s t cs }
-left-alike r stop s t (waits q cs) none e = record { answers = refl; replicas = refl; counted = with-alike s t cs }
-left-alike r stop s t (lacks q cs) none e = record { answers = refl; replicas = refl; counted = with-alike s t cs }
-left-alike r stop s t p (some x) e = record { answers = refl; replicas = refl; counted = e }
+module _ (r : Replica) (stop : ℕ) (s t : List ℕ) where
+  play-alike : (p : Played) (x : Option Refusal) → take (24 * r .count) s ≡ take (24 * r .count) t → LeftAlike (playGiven r stop s p x) (playGiven r stop t p x)
+  play-alike (going cs) none e = with-alike _ _ _ s t cs
+  play-alike (waits q cs) none e = with-alike _ _ _ s t cs
+  play-alike (lacks q cs) none e = with-alike _ _ _ s t cs
+  play-alike p (some x) e = record { answers = refl; replicas = refl; counted = e }
 
-left-rest : (r : Replica) (stop : ℕ) (t : List ℕ) (p : Played) (x : Option Refusal)
-    → drop (24 * playGiven r stop t p x .replica .count) (playGiven r stop t p x .table) ≡ drop (24 * playGiven r stop t p x .replica .count) t
-left-rest r stop t (going cs) none = with-rest t cs
-left-rest r stop t (waits q cs) none = with-rest t cs
-left-rest r stop t (lacks q cs) none = with-rest t cs
-left-rest r stop t p (some x) = refl
+  play-kept : (p : Played) (x : Option Refusal) → RestKept (playGiven r stop t p x) t
+  play-kept (going cs) none = with-rest t cs
+  play-kept (waits q cs) none = with-rest t cs
+  play-kept (lacks q cs) none = with-rest t cs
+  play-kept p (some x) = refl
+
+module _ (sh : Shape) (o : ℕ) (s t : List ℕ) where
+  open-alike : (x : Option Refusal) (c : Option Checkpoint) → LeftAlike (openGiven sh o s x c) (openGiven sh o t x c)
+  open-alike (some x) c = record { answers = refl; replicas = refl; counted = refl }
+  open-alike none none = record { answers = refl; replicas = refl; counted = refl }
+  open-alike none (some c) = with-alike _ _ _ s t (c .cells)
+
+  open-kept : (x : Option Refusal) (c : Option Checkpoint) → RestKept (openGiven sh o t x c) t
+  open-kept (some x) c = refl
+  open-kept none none = refl
+  open-kept none (some c) = with-rest t (c .cells)
+
+module _ (set tail : ℕ) (s t : List ℕ) (f : Option ℕ) where
+  audit-alike : (p : Played) (x : Option Refusal) → LeftAlike (auditGiven set tail s f p x) (auditGiven set tail t f p x)
+  audit-alike (going cs) none = with-alike _ _ _ s t cs
+  audit-alike (waits q cs) none = with-alike _ _ _ s t cs
+  audit-alike (lacks q cs) none = with-alike _ _ _ s t cs
+  audit-alike p (some x) = record { answers = refl; replicas = refl; counted = refl }
+
+  audit-kept : (p : Played) (x : Option Refusal) → RestKept (auditGiven set tail t f p x) t
+  audit-kept (going cs) none = with-rest t cs
+  audit-kept (waits q cs) none = with-rest t cs
+  audit-kept (lacks q cs) none = with-rest t cs
+  audit-kept p (some x) = refl
+
+-- two tables of one length: opening and the audit read no cell of theirs
+module _ (sh : Shape) (log : Log) (s t : List ℕ) (len : length s ≡ length t) where
+  pub open-same : (o : ℕ) → LeftAlike (openAt sh log o s) (openAt sh log o t)
+  unfolding openAt
+  open-same o = rw len (open-alike sh o s t (openRefusal sh log o t) (checkpointIn (log .entry o)))
+
+  pub audit-same : LeftAlike (audit sh log s) (audit sh log t)
+  unfolding audit
+  audit-same = rw len (audit-alike (everything sh) (log .tail) s t (lowestFalse sh log (capacity t)) (auditPlay sh log (capacity t) (log .tail)) (firstOf (frameAndEntries sh log)))
 
 -- two tables of one length, with the same counted cells
 module _ (sh : Shape) (r : Replica) (s t : List ℕ) (len : length s ≡ length t) (e : take (24 * r .count) s ≡ take (24 * r .count) t) where
@@ -125,14 +166,21 @@ module _ (sh : Shape) (r : Replica) (s t : List ℕ) (len : length s ≡ length 
 
   pub play-same : (log : Log) (stop : ℕ) → LeftAlike (playCall sh log r s stop) (playCall sh log r t stop)
   unfolding playCall
-  play-same log stop = rw (len, cells-same s t (r .count) e) (left-alike r stop s t (playFrom sh log r t stop) (playRefusal sh log r t stop) e)
+  play-same log stop = rw (len, cells-same s t (r .count) e) (play-alike r stop s t (playFrom sh log r t stop) (playRefusal sh log r t stop) e)
 
   pub saves-same : (bytes : List ℕ) (tail o : ℕ) → append sh bytes tail (saves r s o) ≡ append sh bytes tail (saves r t o)
   unfolding append entryOf ownTests
   saves-same bytes tail o = rw (len, cells-same s t (r .count) e)
 
--- what lies past the cells counted at exit is the caller's own
-pub play-rest : (sh : Shape) (log : Log) (r : Replica) (t : List ℕ) (stop : ℕ)
-    → drop (24 * playCall sh log r t stop .replica .count) (playCall sh log r t stop .table) ≡ drop (24 * playCall sh log r t stop .replica .count) t
-unfolding playCall
-play-rest sh log r t stop = left-rest r stop t (playFrom sh log r t stop) (playRefusal sh log r t stop)
+module _ (sh : Shape) (log : Log) (t : List ℕ) where
+  pub open-rest : (o : ℕ) → RestKept (openAt sh log o t) t
+  unfolding openAt
+  open-rest o = open-kept sh o t t (openRefusal sh log o t) (checkpointIn (log .entry o))
+
+  pub play-rest : (r : Replica) (stop : ℕ) → RestKept (playCall sh log r t stop) t
+  unfolding playCall
+  play-rest r stop = play-kept r stop t t (playFrom sh log r t stop) (playRefusal sh log r t stop)
+
+  pub audit-rest : RestKept (audit sh log t) t
+  unfolding audit
+  audit-rest = audit-kept (everything sh) (log .tail) t t _ (auditPlay sh log (capacity t) (log .tail)) (firstOf (frameAndEntries sh log))
