@@ -84,7 +84,7 @@ module _ (s t : List ℕ) (count : ℕ) (e : take (24 * count) s ≡ take (24 * 
   unfolding cellsOf
   cells-same = values-same _ _ 0 count (λ k l m. cell-same k (omega arith))
 
-length-cells : (cs : List Cell) → length (joined cellBytes cs) ≡ 24 * length cs
+pub length-cells : (cs : List Cell) → length (joined cellBytes cs) ≡ 24 * length cs
 unfolding joined cellBytes
 length-cells [] = refl
 length-cells (c ∷ cs) = simp (length-append, length-bytesOf, length-cells cs) (omega arith)
