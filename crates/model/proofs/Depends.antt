@@ -57,7 +57,7 @@ depends-log sh a b tail e f =
       plays = λ r table stop. ap (λ l. playCall sh l r table stop) same;
       audits = λ table. ap (λ l. audit sh l table) same;
       appends = λ q. answered a b _ (slotOf (logOf b tail) tail (entryOf q)) tail (appendRefusal sh (logOf a tail) q)
-        ∙ ap (λ l. appendGiven b tail (slotOf (logOf b tail) tail (entryOf q)) (appendRefusal sh l q) .newTail) same;
+          ∙ ap (λ l. appendGiven b tail (slotOf (logOf b tail) tail (entryOf q)) (appendRefusal sh l q) .newTail) same;
     }
 
 -- ---- the table

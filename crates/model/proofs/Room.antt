@@ -102,6 +102,7 @@ module _ (sh : Shape) (log : Log) (r : Replica) (t : List ℕ) (stop : ℕ) wher
     where
       tests : List (Option Refusal)
       tests = frameAndEntries sh log ++ (refuse 10 (badReplica (log .tail) r t) ∷ refuse 3 (badStop (log .tail) r stop) ∷ [])
+
       go : (x : Option Refusal) → playRefusal sh log r t stop ≡ x → length (playGiven r stop t (playFrom sh log r t stop) x .table) ≡ length t
       go none e =
           let good : badReplica (log .tail) r t ≡ false = refuse-none 10 (badReplica (log .tail) r t) (all-pass tests e .1 .1 .0) in
