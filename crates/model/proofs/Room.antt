@@ -1,0 +1,110 @@
+-- A play never needs more cells than the table has room for, so it leaves the table's length as it was, and a count that fits:
+-- each step tests the room before it writes, and a replica whose count is over the capacity is refused.
+use Prim.Native.Nat.{ℕ, zero, suc, _+_, _*_, _-_, _≤_}
+use mathlib.Core.Path.{_≡_, refl, ap}
+use mathlib.Core.Bool.{Bool, true, false, cond}
+use mathlib.Core.List.{List, [], _∷_, _++_}
+use mathlib.Core.Option.{Option, none, some}
+use native.Mathlib.Omega.{arith}
+use borrow.Author.Tests.{leb-true, ltb-false}
+use lib.Dec.{leb}
+use lib.ListN.{length, drop, length-append, length-drop}
+use Rattle.lists.specs.Rows.{values, joined}
+use Rattle.lists.specs.Sets.{meets}
+use Rattle.model.specs.Objects.{Shape, hosted}
+use Rattle.model.specs.Entries.{Write, Effect, writes, aside, tries, inert, effect, Log, writesOf, headerObjects}
+use Rattle.model.specs.Table.{Cell, cellBytes, cellsOf, tableWith, capacity, apply}
+use Rattle.model.specs.Play.{Played, going, waits, lacks, cellsIn, versionAt, outcome, make, finish, act, step, andThen, play}
+use Rattle.model.specs.Answers.{Refusal, refuse, frameAndEntries}
+use Rattle.model.specs.Append.{Replica, badReplica}
+use Rattle.model.specs.Replica.{Left, badStop, playRefusal, playFrom, playGiven, playCall}
+use Rattle.model.proofs.Tests.{ors}
+use Rattle.model.proofs.Refusals.{all-pass, refuse-none}
+use Rattle.model.proofs.Depends.{length-cells}
+
+-- to be replaced by Rows.length-values
+length-values : {A : Type 0} (f : ℕ → A) (i n : ℕ) → length (values f i n) ≡ n
+unfolding values
+length-values f i zero = refl
+length-values f i (suc n) = ap suc (length-values f (suc i) n)
+
+pub length-cellsOf : (t : List ℕ) (n : ℕ) → length (cellsOf t n) ≡ n
+unfolding cellsOf
+length-cellsOf t n = length-values _ 0 n
+
+module _ (log : Log) (set : List ℕ) (room : ℕ) where
+  make-fits : (p : ℕ) (ws : List Write) (cs : List Cell) → length cs ≤ room → length (cellsIn (make set room p ws cs)) ≤ room
+  make-fits p ws cs h = go (apply set (versionAt p) ws cs) (leb (length (apply set (versionAt p) ws cs)) room) refl
+    where
+      go : (new : List Cell) (b : Bool) → leb (length new) room ≡ b → length (cellsIn (cond b (going new) (lacks p cs))) ≤ room
+      go new true e = leb-true (length new) room e
+      go new false e = h
+
+  finish-fits : (p : ℕ) (ws : List Write) (cs : List Cell) (v : Option Bool) → length cs ≤ room → length (cellsIn (finish set room p ws cs v)) ≤ room
+  finish-fits p ws cs none h = h
+  finish-fits p ws cs (some true) h = make-fits p ws cs h
+  finish-fits p ws cs (some false) h = h
+
+  act-fits : (p : ℕ) (cs : List Cell) (e : Effect) → length cs ≤ room → length (cellsIn (act log set room p cs e)) ≤ room
+  act-fits p cs (writes ws) h = make-fits p ws cs h
+  act-fits p cs (aside n ws) h = h
+  act-fits p cs (tries n c) h = finish-fits p (writesOf log n p) cs (outcome log set p cs c) h
+  act-fits p cs inert h = h
+
+  step-fits : (p : ℕ) (cs : List Cell) → length cs ≤ room → length (cellsIn (step log set room p cs)) ≤ room
+  step-fits p cs h = go (meets set (headerObjects log p (log .entry p)))
+    where
+      go : (b : Bool) → length (cellsIn (cond b (act log set room p cs (effect (log .entry p))) (going cs))) ≤ room
+      go true = act-fits p cs (effect (log .entry p)) h
+      go false = h
+
+  pub play-fits : (p : ℕ) (cs : List Cell) (n : ℕ) → length cs ≤ room → length (cellsIn (play log set room p cs n)) ≤ room
+  unfolding play
+  play-fits p cs zero h = h
+  play-fits p cs (suc n) h = go (play log set room p cs n) (play-fits p cs n h)
+    where
+      go : (x : Played) → length (cellsIn x) ≤ room → length (cellsIn (andThen x (step log set room (p + n)))) ≤ room
+      go (going cs) h = step-fits (p + n) cs h
+      go (waits q cs) h = h
+      go (lacks q cs) h = h
+
+pub length-with : (t : List ℕ) (cs : List Cell) → length cs ≤ capacity t → length (tableWith t cs) ≡ length t
+unfolding tableWith
+length-with t cs h = omega (arith, length-append (joined cellBytes cs) (drop (24 * length cs) t), length-cells cs, length-drop (24 * length cs) t)
+
+-- what a play leaves: a table as long, and, where the count fitted, a count that fits
+pub record Fitting (t : List ℕ) (a : Left) : Type 0 where
+  pub size : length (a .table) ≡ length t
+  pub fits : a .replica .count ≤ capacity t
+
+fitting : (r : Replica) (stop : ℕ) (t : List ℕ) (p : Played) → length (cellsIn p) ≤ capacity t → Fitting t (playGiven r stop t p none)
+fitting r stop t (going cs) h = record { size = length-with t cs h; fits = h }
+fitting r stop t (waits q cs) h = record { size = length-with t cs h; fits = h }
+fitting r stop t (lacks q cs) h = record { size = length-with t cs h; fits = h }
+
+module _ (sh : Shape) (log : Log) (r : Replica) (t : List ℕ) (stop : ℕ) where
+  played : r .count ≤ capacity t → Fitting t (playGiven r stop t (playFrom sh log r t stop) none)
+  played h = fitting r stop t (playFrom sh log r t stop)
+      (play-fits log (hosted sh (r .hosting)) (capacity t) (r .position) (cellsOf t (r .count)) (stop - r .position) (omega (arith, length-cellsOf t (r .count))))
+
+  pub play-fitting : r .count ≤ capacity t → Fitting t (playCall sh log r t stop)
+  unfolding playCall
+  play-fitting h = go (playRefusal sh log r t stop)
+    where
+      go : (x : Option Refusal) → Fitting t (playGiven r stop t (playFrom sh log r t stop) x)
+      go none = played h
+      go (some x) = record { size = refl; fits = h }
+
+  -- also where the count does not fit, since the play is then refused
+  pub play-size : length (playCall sh log r t stop .table) ≡ length t
+  unfolding playCall
+  play-size = go (playRefusal sh log r t stop) refl
+    where
+      tests : List (Option Refusal)
+      tests = frameAndEntries sh log ++ (refuse 10 (badReplica (log .tail) r t) ∷ refuse 3 (badStop (log .tail) r stop) ∷ [])
+
+      go : (x : Option Refusal) → playRefusal sh log r t stop ≡ x → length (playGiven r stop t (playFrom sh log r t stop) x .table) ≡ length t
+      go none e =
+          let good : badReplica (log .tail) r t ≡ false = refuse-none 10 (badReplica (log .tail) r t) (all-pass tests e .1 .1 .0) in
+          played (ltb-false (capacity t) (r .count) (search ors)) .size
+      go (some x) e = refl

@@ -1,0 +1,43 @@
+-- Small laws of Boolean tests, by cases: what a true conjunction or a false disjunction says of its parts.
+use mathlib.Core.Path.{_≡_, refl, ap, ap₂, sym}
+use mathlib.Core.Bool.{Bool, true, false, _&&_, _||_}
+use mathlib.Core.Option.{none, some}
+use Prim.Native.Nat.{ℕ}
+use native.Mathlib.Omega.{arith}
+use Rattle.model.specs.Entries.{isNone}
+
+pub and-l : (a b : Bool) → (a && b) ≡ true → a ≡ true
+and-l true b e = refl
+and-l false b e = e
+
+pub and-r : (a b : Bool) → (a && b) ≡ true → b ≡ true
+and-r true b e = e
+and-r false b e = cc
+
+-- any part of a conjunction
+pub ruleset ands = (and-l, and-r)
+
+pub both : {a b : Bool} → a ≡ true → b ≡ true → (a && b) ≡ true
+both p q = ap₂ (λ (x y : Bool). x && y) p q
+
+pub or-l : (a b : Bool) → (a || b) ≡ false → a ≡ false
+or-l true b e = e
+or-l false b e = refl
+
+pub or-r : (a b : Bool) → (a || b) ≡ false → b ≡ false
+or-r true b e = cc
+or-r false b e = e
+
+-- any part of a disjunction
+pub ruleset ors = (or-l, or-r)
+
+pub neither : {a b : Bool} → a ≡ false → b ≡ false → (a || b) ≡ false
+neither p q = ap₂ (λ (x y : Bool). x || y) p q
+
+-- a test that is true and false
+pub clash {ℓ} : {P : Type ℓ} (a : Bool) → a ≡ true → a ≡ false → P
+clash a p q = absurd (let z : _≡_ {A = ℕ} 0 1 = cc in omega arith)
+
+-- something that is nothing
+pub not-none {ℓ} : {A : Type 0} {P : Type ℓ} (x : A) → some x ≡ none → P
+not-none x e = clash true refl (sym (ap isNone e))
