@@ -1,9 +1,9 @@
 -- Laws of `beAt` and `bytesOf`, stated once over the width.
 use mathlib.Core.Path.{_≡_, refl, ap, ap₂, sym, _∙_}
-use mathlib.Core.Logic.{_⊎_, inl, inr, ⊎-elim}
-use Prim.Native.Nat.{ℕ, zero, suc, _+_, _-_, _*_, _/_, _%_, _^_, _≤_, _<_}
+use mathlib.Core.Logic.{⊎-elim}
+use Prim.Native.Nat.{ℕ, zero, suc, _+_, _*_, _/_, _%_, _^_, _≤_, _<_}
 use mathlib.Core.List.{List, [], _∷_, _++_, append-assoc}
-use native.Mathlib.Nat.{add-zero, add-suc, add-assoc, mul-one, mul-assoc, add-mul, pow-suc, mod-lt, mod-eq-of-lt, div-add-mod', div-div-eq-div-mul, mod-one, zero-add, pow-succ', one-le-pow, le-of-suc-le-suc, eq-or-lt-of-le}
+use native.Mathlib.Nat.{add-zero, add-suc, add-assoc, mul-one, mul-assoc, pow-suc, mod-lt, mod-eq-of-lt, mod-one, zero-add, pow-succ', one-le-pow, le-of-suc-le-suc, eq-or-lt-of-le}
 use native.Mathlib.Omega.{arith}
 use lib.ListN.{length, getD, take, drop, length-drop, List·getD-append}
 use lib.Seq.{getD-append-add, length-take-le, getD-take, getD-drop, ext-getD}
