@@ -135,5 +135,5 @@ bytesOf-beAt n xs i h l =
     ext-getD 0 (bytesOf n v) (take n (drop i xs))
     (size ∙ sym (length-take-le n (drop i xs) (omega (arith, length-drop i xs))))
     (λ k u. ap (λ (m : ℕ). getD (bytesOf n v) m 0) (sym (zero-add k))
-      ∙ beAt-inj n (bytesOf n v) xs 0 i (λ m w. bytesOf-lt n v (0 + m)) h e k (omega arith)
-      ∙ sym (getD-take n (drop i xs) k 0 (omega arith) ∙ getD-drop i xs k 0))
+    ∙ beAt-inj n (bytesOf n v) xs 0 i (λ m w. bytesOf-lt n v (0 + m)) h e k (omega arith)
+    ∙ sym (getD-take n (drop i xs) k 0 (omega arith) ∙ getD-drop i xs k 0))

@@ -86,15 +86,15 @@ module _ {A : Type 0} (put : A → List ℕ) (w : ℕ) where
 module _ {A : Type 0} (put : A → List ℕ) (get : List ℕ → ℕ → A) (w : ℕ) where
   -- what was stored is read back
   pub values-joined : (ok : A → Bool) → ((x : A) → length (put x) ≡ w) → ((p : List ℕ) (x : A) (q : List ℕ) → ok x ≡ true → get (p ++ put x ++ q) (length p) ≡ x)
-    → (p : List ℕ) (xs : List A) (q : List ℕ) (at : ℕ) → length p ≡ at → all ok xs ≡ true
-    → values (λ i. get (p ++ joined put xs ++ q) (at + w * i)) 0 (length xs) ≡ xs
+      → (p : List ℕ) (xs : List A) (q : List ℕ) (at : ℕ) → length p ≡ at → all ok xs ≡ true
+      → values (λ i. get (p ++ joined put xs ++ q) (at + w * i)) 0 (length xs) ≡ xs
   unfolding values joined
   values-joined ok size back p xs q at e h =
       let l : length p ≡ at + w * 0 = e ∙ omega (arith, mul-zero w) in
       go xs (p ++ joined put xs ++ q) p 0 refl l h
     where
       go : (ys : List A) (s r : List ℕ) (i : ℕ) → s ≡ r ++ joined put ys ++ q → length r ≡ at + w * i → all ok ys ≡ true
-        → values (λ k. get s (at + w * k)) i (length ys) ≡ ys
+          → values (λ k. get s (at + w * k)) i (length ys) ≡ ys
       go [] s r i e l h = refl
       go (y ∷ ys) s r i e l h =
           let a : s ≡ r ++ put y ++ (joined put ys ++ q) = e ∙ simp append-assoc in
@@ -106,7 +106,7 @@ module _ {A : Type 0} (put : A → List ℕ) (get : List ℕ → ℕ → A) (w :
 
   -- what was read is stored back
   joined-from : (bs : List ℕ) (at i n : ℕ) → ((k : ℕ) → k < i + n → put (get bs (at + w * k)) ≡ take w (drop (at + w * k) bs))
-    → joined put (values (λ k. get bs (at + w * k)) i n) ≡ take (w * n) (drop (at + w * i) bs)
+      → joined put (values (λ k. get bs (at + w * k)) i n) ≡ take (w * n) (drop (at + w * i) bs)
   unfolding values joined
   joined-from bs at i zero h = rw mul-zero
   joined-from bs at i (suc n) h =
@@ -119,7 +119,7 @@ module _ {A : Type 0} (put : A → List ℕ) (get : List ℕ → ℕ → A) (w :
       ∙ ap (λ (m : ℕ). take m (drop (at + w * i) bs)) e
 
   pub joined-values : (bs : List ℕ) (at n : ℕ) → ((k : ℕ) → k < n → put (get bs (at + w * k)) ≡ take w (drop (at + w * k) bs))
-    → joined put (values (λ k. get bs (at + w * k)) 0 n) ≡ take (w * n) (drop at bs)
+      → joined put (values (λ k. get bs (at + w * k)) 0 n) ≡ take (w * n) (drop at bs)
   joined-values bs at n h =
       let e : at + w * 0 ≡ at = omega (arith, mul-zero w) in
       joined-from bs at 0 n (λ k u. h k (omega arith)) ∙ ap (λ (m : ℕ). take (w * n) (drop m bs)) e

@@ -53,6 +53,6 @@ module _ (table : List ℕ) (bytes : all (λ x. ltb x 256) table ≡ true) where
   table-back count h =
       ap₂ (λ (a b : List ℕ). a ++ b)
       (ap (joined cellBytes) (cells-from table count)
-        ∙ joined-values cellBytes cellAt 24 table 0 count (λ k l. cell-bytes (0 + 24 * k) (omega arith)))
+      ∙ joined-values cellBytes cellAt 24 table 0 count (λ k l. cell-bytes (0 + 24 * k) (omega arith)))
       (ap (λ (n : ℕ). drop (24 * n) table) (length-cells table count))
       ∙ take-append-drop (24 * count) table
