@@ -1,9 +1,13 @@
 -- Lists of values stored one after the other in stretches of one width: how they are read and written.
 use mathlib.Core.Path.{_≡_, refl, ap, ap₂, sym, _∙_}
+use mathlib.Core.Bool.{Bool, true, false, _&&_}
 use mathlib.Core.List.{List, [], _∷_, _++_, append-assoc}
 use Prim.Native.Nat.{ℕ, zero, suc, _+_, _-_, _*_, _≤_, _<_}
+use native.Mathlib.Nat.{add-zero, mul-zero, mul-suc}
 use native.Mathlib.Omega.{arith}
-use lib.ListN.{length, getD, take, drop, length-append}
+use lib.ListN.{length, getD, take, drop, length-append, List·getD-eq-default}
+use lib.Seq.{take-add, drop-drop}
+use Rattle.lists.specs.Sets.{all}
 
 module _ {A : Type 0} where
   -- f i, f (i + 1), .. f (i + n - 1) (the `let` has the checker compute each value once at most)
@@ -15,3 +19,107 @@ module _ {A : Type 0} where
   unfoldable pub joined : (A → List ℕ) → List A → List ℕ
   joined put [] = []
   joined put (x ∷ xs) = put x ++ joined put xs
+
+-- ---- both parts of a test; a test of each element
+
+pub and-left : (a b : Bool) → a && b ≡ true → a ≡ true
+and-left true b e = refl
+and-left false b e = e
+
+pub and-right : (a b : Bool) → a && b ≡ true → b ≡ true
+and-right true b e = e
+and-right false b e = cc
+
+-- any part of a longer one: `search ands`
+pub ruleset ands = (and-left, and-right)
+
+pub both : {a b : Bool} → a ≡ true → b ≡ true → a && b ≡ true
+both p q = rw (p, q)
+
+module _ {A : Type 0} where
+  pub all-getD : (f : A → Bool) (xs : List A) (k : ℕ) (d : A) → all f xs ≡ true → f d ≡ true → f (getD xs k d) ≡ true
+  all-getD f [] k d h e = e
+  all-getD f (x ∷ xs) zero d h e = and-left (f x) (all f xs) h
+  all-getD f (x ∷ xs) (suc k) d h e = all-getD f xs k d (and-right (f x) (all f xs) h) e
+
+  -- a test that follows from another, of each element
+  pub all-weaken : (f g : A → Bool) (xs : List A) → ((x : A) → f x ≡ true → g x ≡ true) → all f xs ≡ true → all g xs ≡ true
+  all-weaken f g [] h e = refl
+  all-weaken f g (x ∷ xs) h e =
+      both (h x (and-left (f x) (all f xs) e)) (all-weaken f g xs h (and-right (f x) (all f xs) e))
+
+-- ---- values: how many, which, and when they are the same
+
+module _ {A : Type 0} where
+  pub length-values : (f : ℕ → A) (i n : ℕ) → length (values f i n) ≡ n
+  unfolding values
+  length-values f i zero = refl
+  length-values f i (suc n) = ap suc (length-values f (suc i) n)
+
+  pub getD-values : (f : ℕ → A) (i n k : ℕ) (d : A) → k < n → getD (values f i n) k d ≡ f (i + k)
+  unfolding values
+  getD-values f i zero k d h = absurd (omega arith)
+  getD-values f i (suc n) zero d h = ap f (sym (add-zero i))
+  getD-values f i (suc n) (suc k) d h =
+      let e : suc i + k ≡ i + suc k = omega arith in
+      getD-values f (suc i) n k d (omega arith) ∙ ap f e
+
+  pub getD-values-past : (f : ℕ → A) (i n k : ℕ) (d : A) → n ≤ k → getD (values f i n) k d ≡ d
+  getD-values-past f i n k d h = List·getD-eq-default (values f i n) d (omega (arith, length-values f i n))
+
+  pub values-same : (f g : ℕ → A) (i n : ℕ) → ((k : ℕ) → i ≤ k → k < i + n → f k ≡ g k) → values f i n ≡ values g i n
+  unfolding values
+  values-same f g i zero h = refl
+  values-same f g i (suc n) h =
+      ap₂ (λ (x : A) (xs : List A). x ∷ xs) (h i (omega arith) (omega arith))
+      (values-same f g (suc i) n (λ k l m. h k (omega arith) (omega arith)))
+
+-- ---- values stored in stretches of w bytes each
+
+module _ {A : Type 0} (put : A → List ℕ) (w : ℕ) where
+  pub length-joined : ((x : A) → length (put x) ≡ w) → (xs : List A) → length (joined put xs) ≡ w * length xs
+  unfolding joined
+  length-joined size [] = sym (mul-zero w)
+  length-joined size (x ∷ xs) =
+      omega (arith, length-append (put x) (joined put xs), size x, length-joined size xs, mul-suc w (length xs))
+
+module _ {A : Type 0} (put : A → List ℕ) (get : List ℕ → ℕ → A) (w : ℕ) where
+  -- what was stored is read back
+  pub values-joined : (ok : A → Bool) → ((x : A) → length (put x) ≡ w) → ((p : List ℕ) (x : A) (q : List ℕ) → ok x ≡ true → get (p ++ put x ++ q) (length p) ≡ x)
+      → (p : List ℕ) (xs : List A) (q : List ℕ) (at : ℕ) → length p ≡ at → all ok xs ≡ true
+      → values (λ i. get (p ++ joined put xs ++ q) (at + w * i)) 0 (length xs) ≡ xs
+  unfolding values joined
+  values-joined ok size back p xs q at e h =
+      let l : length p ≡ at + w * 0 = e ∙ omega (arith, mul-zero w) in
+      go xs (p ++ joined put xs ++ q) p 0 refl l h
+    where
+      go : (ys : List A) (s r : List ℕ) (i : ℕ) → s ≡ r ++ joined put ys ++ q → length r ≡ at + w * i → all ok ys ≡ true
+          → values (λ k. get s (at + w * k)) i (length ys) ≡ ys
+      go [] s r i e l h = refl
+      go (y ∷ ys) s r i e l h =
+          let a : s ≡ r ++ put y ++ (joined put ys ++ q) = e ∙ simp append-assoc in
+          let b : s ≡ r ++ put y ++ joined put ys ++ q = e ∙ simp append-assoc in
+          let m : length (r ++ put y) ≡ at + w * suc i = omega (arith, length-append r (put y), size y, mul-suc w i) in
+          ap₂ (λ (z : A) (zs : List A). z ∷ zs)
+          (ap₂ get a (sym l) ∙ back r y (joined put ys ++ q) (and-left (ok y) (all ok ys) h))
+          (go ys s (r ++ put y) (suc i) b m (and-right (ok y) (all ok ys) h))
+
+  -- what was read is stored back
+  joined-from : (bs : List ℕ) (at i n : ℕ) → ((k : ℕ) → k < i + n → put (get bs (at + w * k)) ≡ take w (drop (at + w * k) bs))
+      → joined put (values (λ k. get bs (at + w * k)) i n) ≡ take (w * n) (drop (at + w * i) bs)
+  unfolding values joined
+  joined-from bs at i zero h = rw mul-zero
+  joined-from bs at i (suc n) h =
+      let e : w + w * n ≡ w * suc n = omega (arith, mul-suc w n) in
+      let l : at + w * suc i ≡ at + w * i + w = omega (arith, mul-suc w i) in
+      ap₂ (λ (a b : List ℕ). a ++ b) (h i (omega arith)) (joined-from bs at (suc i) n (λ k u. h k (omega arith)))
+      ∙ ap (λ (t : List ℕ). take w (drop (at + w * i) bs) ++ take (w * n) t)
+      (ap (λ (m : ℕ). drop m bs) l ∙ sym (drop-drop w (at + w * i) bs))
+      ∙ sym (take-add w (w * n) (drop (at + w * i) bs))
+      ∙ ap (λ (m : ℕ). take m (drop (at + w * i) bs)) e
+
+  pub joined-values : (bs : List ℕ) (at n : ℕ) → ((k : ℕ) → k < n → put (get bs (at + w * k)) ≡ take w (drop (at + w * k) bs))
+      → joined put (values (λ k. get bs (at + w * k)) 0 n) ≡ take (w * n) (drop at bs)
+  joined-values bs at n h =
+      let e : at + w * 0 ≡ at = omega (arith, mul-zero w) in
+      joined-from bs at 0 n (λ k u. h k (omega arith)) ∙ ap (λ (m : ℕ). take (w * n) (drop m bs)) e

@@ -1,0 +1,58 @@
+-- The cells of a table: read and stored back they are the table's bytes, and stored and read back they are the cells.
+use mathlib.Core.Path.{_≡_, refl, ap, ap₂, sym, _∙_}
+use mathlib.Core.Bool.{true}
+use mathlib.Core.List.{List, [], _++_}
+use Prim.Native.Nat.{ℕ, _+_, _*_, _≤_, _<_}
+use native.Mathlib.Nat.{zero-add}
+use native.Mathlib.Omega.{arith}
+use lib.Dec.{ltb}
+use lib.ListN.{length, getD, take, drop, take-append-drop}
+use lib.Seq.{take-add, drop-drop}
+use borrow.Author.Tests.{ltb-true}
+use Rattle.lists.specs.Bytes.{beAt, bytesOf, bytesOf-beAt}
+use Rattle.lists.specs.Rows.{joined, values, all-getD, length-values, values-same, values-joined, joined-values}
+use Rattle.lists.specs.Sets.{all}
+use Rattle.model.specs.Table.{Cell, cellAt, cellBytes, cellsOf, tableWith}
+use Rattle.model.proofs.Items.{fitsCell, length-cell, cell-back}
+
+pub length-cells : (table : List ℕ) (count : ℕ) → length (cellsOf table count) ≡ count
+unfolding cellsOf
+length-cells table count = length-values _ 0 count
+
+-- the places as the laws of rows have them
+cells-from : (table : List ℕ) (count : ℕ) → cellsOf table count ≡ values (λ i. cellAt table (0 + 24 * i)) 0 count
+unfolding cellsOf
+cells-from table count = values-same _ _ 0 count (λ k l m. ap (cellAt table) (sym (zero-add (24 * k))))
+
+pub cells-back : (table : List ℕ) (cells : List Cell) → all fitsCell cells ≡ true → cellsOf (tableWith table cells) (length cells) ≡ cells
+unfolding tableWith
+cells-back table cells h =
+    cells-from (tableWith table cells) (length cells)
+    ∙ values-joined cellBytes cellAt 24 fitsCell length-cell cell-back [] cells (drop (24 * length cells) table) 0 refl h
+
+module _ (table : List ℕ) (bytes : all (λ x. ltb x 256) table ≡ true) where
+  small : (k : ℕ) → getD table k 0 < 256
+  small k = ltb-true (getD table k 0) 256 (all-getD (λ x. ltb x 256) table k 0 bytes refl)
+
+  word : (n i : ℕ) → i + n ≤ length table → bytesOf n (beAt n table i) ≡ take n (drop i table)
+  word n i h = bytesOf-beAt n table i (λ k l. small (i + k)) h
+
+  -- one number more
+  next : (m n i : ℕ) {xs : List ℕ} → i + m + n ≤ length table → xs ≡ take m (drop i table) → xs ++ bytesOf n (beAt n table (i + m)) ≡ take (m + n) (drop i table)
+  next m n i h e =
+      ap₂ (λ (a b : List ℕ). a ++ b) e (word n (i + m) h ∙ ap (take n) (sym (drop-drop m i table))) ∙ sym (take-add m n (drop i table))
+
+  -- a cell's bytes
+  pub cell-bytes : (i : ℕ) → i + 24 ≤ length table → cellBytes (cellAt table i) ≡ take 24 (drop i table)
+  unfolding cellAt cellBytes
+  cell-bytes i h =
+      next 16 8 i (omega arith) (next 12 4 i (omega arith) (next 8 4 i (omega arith) (next 4 4 i (omega arith) (word 4 i (omega arith)))))
+
+  pub table-back : (count : ℕ) → 24 * count ≤ length table → tableWith table (cellsOf table count) ≡ table
+  unfolding tableWith
+  table-back count h =
+      ap₂ (λ (a b : List ℕ). a ++ b)
+      (ap (joined cellBytes) (cells-from table count)
+      ∙ joined-values cellBytes cellAt 24 table 0 count (λ k l. cell-bytes (0 + 24 * k) (omega arith)))
+      (ap (λ (n : ℕ). drop (24 * n) table) (length-cells table count))
+      ∙ take-append-drop (24 * count) table
