@@ -8,7 +8,8 @@ use native.Mathlib.Omega.{arith}
 use lib.Dec.{eqb, leb, lit≤}
 use lib.ListN.{getD}
 use borrow.Author.Tests.{ne-eqb, not-true, leb-true, leb-false}
-use Rattle.lists.specs.Sets.{all, any, mem, and-true}
+use Rattle.lists.specs.Sets.{all, any, mem}
+use Rattle.lists.specs.Tests.{and-l, and-r, or-false, beq-true}
 use Rattle.lists.specs.First.{first, firstFrom, every-below}
 use Rattle.model.specs.Objects.{theObjects, depots, isObject, isCell, isMarked, hostedBy, hosted}
 use Rattle.model.specs.Objects as model
@@ -65,17 +66,20 @@ unlisted o out = simp (no 1 (lit≤ tt) (lit≤ tt), no 2 (lit≤ tt) (lit≤ tt
 module _ (o : ℕ) where
   unlisted-any : (f : model.Object → Bool) (bs : List model.Object) → Unlisted o bs → any (λ (b : model.Object). eqb b.id o && f b) bs ≡ false
   unlisted-any f [] u = refl
-  unlisted-any f (b ∷ bs) u = let h = and-true (not (eqb b.id o)) _ u in rw (not-true (eqb b.id o) (h .0)) (unlisted-any f bs (h .1))
+  unlisted-any f (b ∷ bs) u = let n = not-true (eqb b.id o) (and-l (not (eqb b.id o)) (all (λ (b : model.Object). not (eqb b.id o)) bs) u) in
+      let v : Unlisted o bs = and-r (not (eqb b.id o)) (all (λ (b : model.Object). not (eqb b.id o)) bs) u in rw n (unlisted-any f bs v)
 
   unlisted-mem : (bs : List model.Object) → Unlisted o bs → mem o (map (λ (b : model.Object). b .id) bs) ≡ false
   unlisted-mem [] u = refl
-  unlisted-mem (b ∷ bs) u = let h = and-true (not (eqb b.id o)) _ u in rw (not-true (eqb b.id o) (h .0)) (unlisted-mem bs (h .1))
+  unlisted-mem (b ∷ bs) u = let n = not-true (eqb b.id o) (and-l (not (eqb b.id o)) (all (λ (b : model.Object). not (eqb b.id o)) bs) u) in
+      let v : Unlisted o bs = and-r (not (eqb b.id o)) (all (λ (b : model.Object). not (eqb b.id o)) bs) u in rw n (unlisted-mem bs v)
 
   unlisted-hosted : (bs : List model.Object) (set : ℕ) → Unlisted o bs → mem o (hostedBy bs set) ≡ false
   unlisted-hosted [] set u = refl
   unlisted-hosted (b ∷ bs) set u =
-      let h = and-true (not (eqb b.id o)) _ u in
-      go (eqb (set % 2) 1) (not-true (eqb b.id o) (h .0)) (unlisted-hosted bs (set / 2) (h .1))
+      let n = not-true (eqb b.id o) (and-l (not (eqb b.id o)) (all (λ (b : model.Object). not (eqb b.id o)) bs) u) in
+      let v : Unlisted o bs = and-r (not (eqb b.id o)) (all (λ (b : model.Object). not (eqb b.id o)) bs) u in
+      go (eqb (set % 2) 1) n (unlisted-hosted bs (set / 2) v)
     where
       go : (t : Bool) → eqb b.id o ≡ false → mem o (hostedBy bs (set / 2)) ≡ false → mem o (cond t (b .id ∷ hostedBy bs (set / 2)) (hostedBy bs (set / 2))) ≡ false
       go true n ih = rw (n, ih)
@@ -96,10 +100,6 @@ module _ (o : ℕ) (out : Outside o) where
 
 -- ---- an id that is in the table
 
-or-false : (b : Bool) → (b || false) ≡ b
-or-false true = refl
-or-false false = refl
-
 pub object-in : (o : ℕ) → 1 ≤ o → o ≤ 8 → isObject depots o ≡ true
 object-in = eight (λ (o : ℕ). isObject depots o ≡ true) refl refl refl refl refl refl refl refl
 
@@ -118,12 +118,6 @@ bitRule k = Bool·beq (mem (k % 8 + 1) (hosted depots (k / 8))) (eqb (k / 8 / 2 
 bits-right : (k : ℕ) → k < 2048 → bitRule k ≡ true
 unfolding bitRule first firstFrom
 bits-right = every-below bitRule 2048 refl
-
-beq-true : (a b : Bool) → Bool·beq a b ≡ true → a ≡ b
-beq-true true true e = refl
-beq-true true false e = sym e
-beq-true false true e = e
-beq-true false false e = refl
 
 pub hosted-in : (set o : ℕ) → set < 256 → 1 ≤ o → o ≤ 8 → mem o (hosted depots set) ≡ eqb (set / 2 ^ (o - 1) % 2) 1
 unfolding bitRule

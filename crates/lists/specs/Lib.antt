@@ -1,3 +1,4 @@
+pub mod Tests
 pub mod Splice
 pub mod Bytes
 pub mod Rows

@@ -8,6 +8,7 @@ use native.Mathlib.Omega.{arith}
 use lib.ListN.{length, getD, take, drop, length-append, List·getD-eq-default}
 use lib.Seq.{take-add, drop-drop}
 use Rattle.lists.specs.Sets.{all}
+use Rattle.lists.specs.Tests.{and-l, and-r}
 
 module _ {A : Type 0} where
   -- f i, f (i + 1), .. f (i + n - 1) (the `let` has the checker compute each value once at most)
@@ -19,34 +20,6 @@ module _ {A : Type 0} where
   unfoldable pub joined : (A → List ℕ) → List A → List ℕ
   joined put [] = []
   joined put (x ∷ xs) = put x ++ joined put xs
-
--- ---- both parts of a test; a test of each element
-
-pub and-left : (a b : Bool) → a && b ≡ true → a ≡ true
-and-left true b e = refl
-and-left false b e = e
-
-pub and-right : (a b : Bool) → a && b ≡ true → b ≡ true
-and-right true b e = e
-and-right false b e = cc
-
--- any part of a longer one: `search ands`
-pub ruleset ands = (and-left, and-right)
-
-pub both : {a b : Bool} → a ≡ true → b ≡ true → a && b ≡ true
-both p q = rw (p, q)
-
-module _ {A : Type 0} where
-  pub all-getD : (f : A → Bool) (xs : List A) (k : ℕ) (d : A) → all f xs ≡ true → f d ≡ true → f (getD xs k d) ≡ true
-  all-getD f [] k d h e = e
-  all-getD f (x ∷ xs) zero d h e = and-left (f x) (all f xs) h
-  all-getD f (x ∷ xs) (suc k) d h e = all-getD f xs k d (and-right (f x) (all f xs) h) e
-
-  -- a test that follows from another, of each element
-  pub all-weaken : (f g : A → Bool) (xs : List A) → ((x : A) → f x ≡ true → g x ≡ true) → all f xs ≡ true → all g xs ≡ true
-  all-weaken f g [] h e = refl
-  all-weaken f g (x ∷ xs) h e =
-      both (h x (and-left (f x) (all f xs) e)) (all-weaken f g xs h (and-right (f x) (all f xs) e))
 
 -- ---- values: how many, which, and when they are the same
 
@@ -101,8 +74,8 @@ module _ {A : Type 0} (put : A → List ℕ) (get : List ℕ → ℕ → A) (w :
           let b : s ≡ r ++ put y ++ joined put ys ++ q = e ∙ simp append-assoc in
           let m : length (r ++ put y) ≡ at + w * suc i = omega (arith, length-append r (put y), size y, mul-suc w i) in
           ap₂ (λ (z : A) (zs : List A). z ∷ zs)
-          (ap₂ get a (sym l) ∙ back r y (joined put ys ++ q) (and-left (ok y) (all ok ys) h))
-          (go ys s (r ++ put y) (suc i) b m (and-right (ok y) (all ok ys) h))
+          (ap₂ get a (sym l) ∙ back r y (joined put ys ++ q) (and-l (ok y) (all ok ys) h))
+          (go ys s (r ++ put y) (suc i) b m (and-r (ok y) (all ok ys) h))
 
   -- what was read is stored back
   joined-from : (bs : List ℕ) (at i n : ℕ) → ((k : ℕ) → k < i + n → put (get bs (at + w * k)) ≡ take w (drop (at + w * k) bs))

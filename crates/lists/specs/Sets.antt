@@ -5,7 +5,9 @@ use mathlib.Core.List.{List, [], _∷_, _++_}
 use Prim.Native.Nat.{ℕ, zero, suc, _+_, _≤_, _<_}
 use native.Mathlib.Omega.{arith}
 use lib.Dec.{eqb, ltb}
+use lib.ListN.{getD}
 use borrow.Author.Tests.{eqb-true, eqb-false, ltb-false, lt-ltb}
+use Rattle.lists.specs.Tests.{and-l, and-r, both}
 
 abbrev pub all {ℓ} : {A : Type ℓ} → (A → Bool) → List A → Bool
 all f [] = true
@@ -47,53 +49,64 @@ abbrev pub ascendingSet : List ℕ → List ℕ
 ascendingSet [] = []
 ascendingSet (x ∷ xs) = insertOnce x (ascendingSet xs)
 
--- ---- laws of tests
+-- ---- a test of each element
 
-pub and-true : (a b : Bool) → (a && b) ≡ true → (a ≡ true) × (b ≡ true)
-and-true true b e = (refl, e)
-and-true false b e = (e, cc)
+module _ {A : Type 0} where
+  pub all-getD : (f : A → Bool) (xs : List A) (k : ℕ) (d : A) → all f xs ≡ true → f d ≡ true → f (getD xs k d) ≡ true
+  all-getD f [] k d h e = e
+  all-getD f (x ∷ xs) zero d h e = and-l (f x) (all f xs) h
+  all-getD f (x ∷ xs) (suc k) d h e = all-getD f xs k d (and-r (f x) (all f xs) h) e
+
+  -- a test that follows from another, of each element
+  pub all-weaken : (f g : A → Bool) (xs : List A) → ((x : A) → f x ≡ true → g x ≡ true) → all f xs ≡ true → all g xs ≡ true
+  all-weaken f g [] h e = refl
+  all-weaken f g (x ∷ xs) h e =
+      both (h x (and-l (f x) (all f xs) e)) (all-weaken f g xs h (and-r (f x) (all f xs) e))
+
+-- ---- laws of ascending lists
+
+module _ {A : Type 0} (before : A → A → Bool) where
+  -- x is before the first of a list
+  abbrev pub leads : A → List A → Bool
+  leads x [] = true
+  leads x (y ∷ l) = before x y
+
+  pub ascends : (x : A) (l : List A) → leads x l ≡ true → ascending before l ≡ true → ascending before (x ∷ l) ≡ true
+  ascends x [] p q = refl
+  ascends x (y ∷ l) p q = both p q
+
+  pub first-leads : (x : A) (l : List A) → ascending before (x ∷ l) ≡ true → leads x l ≡ true
+  first-leads x [] e = refl
+  first-leads x (y ∷ l) e = and-l (before x y) (ascending before (y ∷ l)) e
+
+  pub rest-ascends : (x : A) (l : List A) → ascending before (x ∷ l) ≡ true → ascending before l ≡ true
+  rest-ascends x [] e = refl
+  rest-ascends x (y ∷ l) e = and-r (before x y) (ascending before (y ∷ l)) e
 
 -- ---- laws of ascending sets
 
--- at a number's place in the order: below, equal, or above
-below-or : (x y : ℕ) → ltb x y ≡ false → eqb x y ≡ false → ltb y x ≡ true
-below-or x y a b = lt-ltb y x (omega (arith, ltb-false x y a, eqb-false x y b))
+-- a number that is neither below nor equal is above
+above : (x y : ℕ) → ltb x y ≡ false → eqb x y ≡ false → ltb y x ≡ true
+above x y a b = lt-ltb y x (omega (arith, ltb-false x y a, eqb-false x y b))
 
--- y is before all of an ascending list, or the list is empty
-abbrev headAbove : ℕ → List ℕ → Bool
-headAbove y [] = true
-headAbove y (z ∷ l) = ltb y z
-
-ascending-cons : (y : ℕ) (l : List ℕ) → headAbove y l ≡ true → ascending ltb l ≡ true → ascending ltb (y ∷ l) ≡ true
-ascending-cons y [] h a = refl
-ascending-cons y (z ∷ l) h a = rw (h, a)
-
-ascending-head : (y : ℕ) (l : List ℕ) → ascending ltb (y ∷ l) ≡ true → headAbove y l ≡ true
-ascending-head y [] a = refl
-ascending-head y (z ∷ l) a = and-true (ltb y z) _ a .0
-
-ascending-tail : (y : ℕ) (l : List ℕ) → ascending ltb (y ∷ l) ≡ true → ascending ltb l ≡ true
-ascending-tail y [] a = refl
-ascending-tail y (z ∷ l) a = and-true (ltb y z) _ a .1
-
-insert-head : (y x : ℕ) (l : List ℕ) → ltb y x ≡ true → headAbove y l ≡ true → headAbove y (insertOnce x l) ≡ true
+insert-head : (y x : ℕ) (l : List ℕ) → ltb y x ≡ true → leads ltb y l ≡ true → leads ltb y (insertOnce x l) ≡ true
 insert-head y x [] h a = h
 insert-head y x (z ∷ l) h a = go (ltb x z) (eqb x z)
   where
-    go : (b c : Bool) → headAbove y (cond b (x ∷ z ∷ l) (cond c (z ∷ l) (z ∷ insertOnce x l))) ≡ true
+    go : (b c : Bool) → leads ltb y (cond b (x ∷ z ∷ l) (cond c (z ∷ l) (z ∷ insertOnce x l))) ≡ true
     go true c = h
     go false true = a
     go false false = a
 
 pub ascending-insert : (x : ℕ) (l : List ℕ) → ascending ltb l ≡ true → ascending ltb (insertOnce x l) ≡ true
 ascending-insert x [] a = refl
-ascending-insert x (z ∷ l) a = go (ltb x z) (eqb x z) refl refl (ascending-insert x l (ascending-tail z l a))
+ascending-insert x (z ∷ l) a = go (ltb x z) (eqb x z) refl refl (ascending-insert x l (rest-ascends ltb z l a))
   where
     go : (b c : Bool) → ltb x z ≡ b → eqb x z ≡ c → ascending ltb (insertOnce x l) ≡ true
         → ascending ltb (cond b (x ∷ z ∷ l) (cond c (z ∷ l) (z ∷ insertOnce x l))) ≡ true
-    go true c p q ih = ascending-cons x (z ∷ l) p a
+    go true c p q ih = ascends ltb x (z ∷ l) p a
     go false true p q ih = a
-    go false false p q ih = ascending-cons z (insertOnce x l) (insert-head z x l (below-or x z p q) (ascending-head z l a)) ih
+    go false false p q ih = ascends ltb z (insertOnce x l) (insert-head z x l (above x z p q) (first-leads ltb z l a)) ih
 
 -- the set of a list ascends strictly
 pub ascending-set : (l : List ℕ) → ascending ltb (ascendingSet l) ≡ true

@@ -8,7 +8,7 @@ use native.Mathlib.Omega.{arith}
 use lib.ListN.{length, take, drop, getD, length-append}
 use lib.Seq.{getD-take, take-at, drop-at}
 use Rattle.lists.specs.Bytes.{beAt, beAt-same, length-bytesOf}
-use Rattle.lists.specs.Rows.{values, joined}
+use Rattle.lists.specs.Rows.{values, joined, values-same}
 use Rattle.model.specs.Objects.{Shape, everything}
 use Rattle.model.specs.Entries.{Log}
 use Rattle.model.specs.Slot.{slotOf, logIn, logOf}
@@ -18,6 +18,7 @@ use Rattle.model.specs.Answers.{Refusal, Answer, firstOf, frameAndEntrie
 use Rattle.model.specs.Reading.{check, owed, entryCall, itemList, streamNext, streamList}
 use Rattle.model.specs.Append.{Replica, Request, saves, entryOf, ownTests, appendRefusal, appendGiven, append}
 use Rattle.model.specs.Replica.{Left, leftWith, Checkpoint, checkpointIn, openRefusal, openGiven, openAt, playFrom, playRefusal, playGiven, playCall, readCell, auditPlay, lowestFalse, auditGiven, audit}
+use Rattle.model.proofs.Tables.{length-stored}
 
 -- ---- the log
 
@@ -62,12 +63,6 @@ depends-log sh a b tail e f =
 
 -- ---- the table
 
--- to be replaced by Rows.values-same
-values-same : {A : Type 0} (f g : ℕ → A) (i n : ℕ) → ((k : ℕ) → i ≤ k → k < i + n → f k ≡ g k) → values f i n ≡ values g i n
-unfolding values
-values-same f g i zero h = refl
-values-same f g i (suc n) h = ap₂ (λ x xs. x ∷ xs) (h i (omega arith) (omega arith)) (values-same f g (suc i) n (λ k l m. h k (omega arith) (omega arith)))
-
 module _ (s t : List ℕ) (count : ℕ) (e : take (24 * count) s ≡ take (24 * count) t) where
   byte-same : (k : ℕ) → k < 24 * count → getD s k 0 ≡ getD t k 0
   byte-same k h = sym (getD-take (24 * count) s k 0 h) ∙ ap (λ l. getD l k 0) e ∙ getD-take (24 * count) t k 0 h
@@ -84,11 +79,6 @@ module _ (s t : List ℕ) (count : ℕ) (e : take (24 * count) s ≡ take (24 * 
   unfolding cellsOf
   cells-same = values-same _ _ 0 count (λ k l m. cell-same k (omega arith))
 
-pub length-cells : (cs : List Cell) → length (joined cellBytes cs) ≡ 24 * length cs
-unfolding joined cellBytes
-length-cells [] = refl
-length-cells (c ∷ cs) = simp (length-append, length-bytesOf, length-cells cs) (omega arith)
-
 -- a replica's record and table as two calls left them: alike, but for the bytes past the counted cells
 pub record LeftAlike (a b : Left) : Type 0 where
   pub answers : a .answer ≡ b .answer
@@ -104,12 +94,12 @@ unfolding tableWith
 with-alike a set p s t cs = record {
   answers = refl;
   replicas = refl;
-  counted = take-at (joined cellBytes cs) _ _ (length-cells cs) ∙ sym (take-at (joined cellBytes cs) _ _ (length-cells cs));
+  counted = take-at (joined cellBytes cs) _ _ (length-stored cs) ∙ sym (take-at (joined cellBytes cs) _ _ (length-stored cs));
 }
 
 with-rest : (t : List ℕ) (cs : List Cell) → drop (24 * length cs) (tableWith t cs) ≡ drop (24 * length cs) t
 unfolding tableWith
-with-rest t cs = drop-at (joined cellBytes cs) _ _ (length-cells cs)
+with-rest t cs = drop-at (joined cellBytes cs) _ _ (length-stored cs)
 
 module _ (r : Replica) (stop : ℕ) (s t : List ℕ) where
   play-alike : (p : Played) (x : Option Refusal) → take (24 * r .count) s ≡ take (24 * r .count) t → LeftAlike (playGiven r stop s p x) (playGiven r stop t p x)

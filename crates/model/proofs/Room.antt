@@ -18,19 +18,9 @@ use Rattle.model.specs.Play.{Played, going, waits, lacks, cellsIn, versi
 use Rattle.model.specs.Answers.{Refusal, refuse, frameAndEntries}
 use Rattle.model.specs.Append.{Replica, badReplica}
 use Rattle.model.specs.Replica.{Left, badStop, playRefusal, playFrom, playGiven, playCall}
-use Rattle.model.proofs.Tests.{ors}
+use Rattle.lists.specs.Tests.{ors}
 use Rattle.model.proofs.Refusals.{all-pass, refuse-none}
-use Rattle.model.proofs.Depends.{length-cells}
-
--- to be replaced by Rows.length-values
-length-values : {A : Type 0} (f : ℕ → A) (i n : ℕ) → length (values f i n) ≡ n
-unfolding values
-length-values f i zero = refl
-length-values f i (suc n) = ap suc (length-values f (suc i) n)
-
-pub length-cellsOf : (t : List ℕ) (n : ℕ) → length (cellsOf t n) ≡ n
-unfolding cellsOf
-length-cellsOf t n = length-values _ 0 n
+use Rattle.model.proofs.Tables.{length-cells, length-stored}
 
 module _ (log : Log) (set : List ℕ) (room : ℕ) where
   make-fits : (p : ℕ) (ws : List Write) (cs : List Cell) → length cs ≤ room → length (cellsIn (make set room p ws cs)) ≤ room
@@ -70,7 +60,7 @@ module _ (log : Log) (set : List ℕ) (room : ℕ) where
 
 pub length-with : (t : List ℕ) (cs : List Cell) → length cs ≤ capacity t → length (tableWith t cs) ≡ length t
 unfolding tableWith
-length-with t cs h = omega (arith, length-append (joined cellBytes cs) (drop (24 * length cs) t), length-cells cs, length-drop (24 * length cs) t)
+length-with t cs h = omega (arith, length-append (joined cellBytes cs) (drop (24 * length cs) t), length-stored cs, length-drop (24 * length cs) t)
 
 -- what a play leaves: a table as long, and, where the count fitted, a count that fits
 pub record Fitting (t : List ℕ) (a : Left) : Type 0 where
@@ -85,7 +75,7 @@ fitting r stop t (lacks q cs) h = record { size = length-with t cs h; fits = h }
 module _ (sh : Shape) (log : Log) (r : Replica) (t : List ℕ) (stop : ℕ) where
   played : r .count ≤ capacity t → Fitting t (playGiven r stop t (playFrom sh log r t stop) none)
   played h = fitting r stop t (playFrom sh log r t stop)
-      (play-fits log (hosted sh (r .hosting)) (capacity t) (r .position) (cellsOf t (r .count)) (stop - r .position) (omega (arith, length-cellsOf t (r .count))))
+      (play-fits log (hosted sh (r .hosting)) (capacity t) (r .position) (cellsOf t (r .count)) (stop - r .position) (omega (arith, length-cells t (r .count))))
 
   pub play-fitting : r .count ≤ capacity t → Fitting t (playCall sh log r t stop)
   unfolding playCall

@@ -10,14 +10,17 @@ use lib.ListN.{length, getD, take, drop, take-append-drop}
 use lib.Seq.{take-add, drop-drop}
 use borrow.Author.Tests.{ltb-true}
 use Rattle.lists.specs.Bytes.{beAt, bytesOf, bytesOf-beAt}
-use Rattle.lists.specs.Rows.{joined, values, all-getD, length-values, values-same, values-joined, joined-values}
-use Rattle.lists.specs.Sets.{all}
+use Rattle.lists.specs.Rows.{joined, values, length-values, length-joined, values-same, values-joined, joined-values}
+use Rattle.lists.specs.Sets.{all, all-getD}
 use Rattle.model.specs.Table.{Cell, cellAt, cellBytes, cellsOf, tableWith}
 use Rattle.model.proofs.Items.{fitsCell, length-cell, cell-back}
 
 pub length-cells : (table : List ℕ) (count : ℕ) → length (cellsOf table count) ≡ count
 unfolding cellsOf
 length-cells table count = length-values _ 0 count
+
+pub length-stored : (cells : List Cell) → length (joined cellBytes cells) ≡ 24 * length cells
+length-stored cells = length-joined cellBytes 24 length-cell cells
 
 -- the places as the laws of rows have them
 cells-from : (table : List ℕ) (count : ℕ) → cellsOf table count ≡ values (λ i. cellAt table (0 + 24 * i)) 0 count

@@ -231,7 +231,6 @@ bench = update 0 (put 2 7 43) ∷ update 9 (put 2 7 42) ∷ update 10 (put 2 7 4
 
 -- Outcomes, versions and waiting.
 abbrev pub playing : List Sample
-unfolding to but five one all8 only2 only5 save both across passes bench
 playing =
     -- two transactions that conflict, played in instalments
     passes bench 5 all8 (to 5 3 ∷ to 5 5 ∷ [])
@@ -252,7 +251,6 @@ playing =
 
 -- Openings at a checkpoint, and false records.
 abbrev pub checkpoints : List Sample
-unfolding to five only5 save both across passes fails
 checkpoints =
     -- an update set aside before the checkpoint
     passes (update 9 (put 2 7 1) ∷ save 1 [] ∷ commits 9 [] ∷ []) 3 (atCheckpoint 3 1 five) (to 3 3 ∷ [])
@@ -272,7 +270,6 @@ checkpoints =
 
 -- Owed decisions, refused appends.
 abbrev pub refusing : List Sample
-unfolding to five all8 passes owing
 refusing =
     -- a commit that reads a marked object owes a decision; the lowest; not once it is paid; not for an unmarked object
     owing (update 9 (put 2 7 1) ∷ commits 9 (read 3 1 0) ∷ update 10 (put 2 7 1) ∷ commits 10 (read 4 1 0) ∷ []) 4 1

@@ -98,7 +98,6 @@ abbrev only5 : List Request
 only5 = update 9 (put 5 1 6) ∷ commits 9 (read 2 7 0) ∷ []
 
 abbrev pub rows : List Row
-unfolding only5
 rows =
     -- "Empty log: audit passes, no cells."
     audited [] 48 0 [] []

@@ -1,10 +1,8 @@
--- Small laws of Boolean tests, by cases: what a true conjunction or a false disjunction says of its parts.
-use mathlib.Core.Path.{_≡_, refl, ap, ap₂, sym}
-use mathlib.Core.Bool.{Bool, true, false, _&&_, _||_}
-use mathlib.Core.Option.{none, some}
+-- Small laws of Boolean tests, by cases: what a true conjunction or a false disjunction says of its parts, and back.
+use mathlib.Core.Path.{_≡_, refl, ap₂, sym}
+use mathlib.Core.Bool.{Bool, true, false, _&&_, _||_, Bool·beq}
 use Prim.Native.Nat.{ℕ}
 use native.Mathlib.Omega.{arith}
-use Rattle.model.specs.Entries.{isNone}
 
 pub and-l : (a b : Bool) → (a && b) ≡ true → a ≡ true
 and-l true b e = refl
@@ -14,7 +12,7 @@ pub and-r : (a b : Bool) → (a && b) ≡ true → b ≡ true
 and-r true b e = e
 and-r false b e = cc
 
--- any part of a conjunction
+-- any part of a conjunction: `search ands`
 pub ruleset ands = (and-l, and-r)
 
 pub both : {a b : Bool} → a ≡ true → b ≡ true → (a && b) ≡ true
@@ -28,16 +26,26 @@ pub or-r : (a b : Bool) → (a || b) ≡ false → b ≡ false
 or-r true b e = cc
 or-r false b e = e
 
--- any part of a disjunction
+-- any part of a disjunction that is false: `search ors`
 pub ruleset ors = (or-l, or-r)
 
 pub neither : {a b : Bool} → a ≡ false → b ≡ false → (a || b) ≡ false
 neither p q = ap₂ (λ (x y : Bool). x || y) p q
 
+pub or-case {ℓ} : {P : Type ℓ} (a b : Bool) → (a || b) ≡ true → (a ≡ true → P) → (b ≡ true → P) → P
+or-case true b e f g = f refl
+or-case false b e f g = g e
+
+pub or-false : (b : Bool) → (b || false) ≡ b
+or-false true = refl
+or-false false = refl
+
+pub beq-true : (a b : Bool) → Bool·beq a b ≡ true → a ≡ b
+beq-true true true e = refl
+beq-true true false e = sym e
+beq-true false true e = e
+beq-true false false e = refl
+
 -- a test that is true and false
 pub clash {ℓ} : {P : Type ℓ} (a : Bool) → a ≡ true → a ≡ false → P
 clash a p q = absurd (let z : _≡_ {A = ℕ} 0 1 = cc in omega arith)
-
--- something that is nothing
-pub not-none {ℓ} : {A : Type 0} {P : Type ℓ} (x : A) → some x ≡ none → P
-not-none x e = clash true refl (sym (ap isNone e))
