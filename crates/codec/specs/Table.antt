@@ -87,28 +87,35 @@ module _ (o : ℕ) where
 
 module _ (o : ℕ) (out : Outside o) where
   pub object-out : isObject depots o ≡ false
+  unfolding isObject
   object-out = unlisted-mem o theObjects (unlisted o out)
 
   pub cell-out : (k : ℕ) → isCell depots o k ≡ false
+  unfolding isCell
   cell-out k = unlisted-any o (λ (b : model.Object). leb k b.highest) theObjects (unlisted o out)
 
   pub marked-out : isMarked depots o ≡ false
+  unfolding isMarked
   marked-out = unlisted-any o (λ (b : model.Object). b .marked) theObjects (unlisted o out)
 
   pub hosted-out : (set : ℕ) → mem o (hosted depots set) ≡ false
+  unfolding hosted
   hosted-out set = unlisted-hosted o theObjects set (unlisted o out)
 
 -- ---- an id that is in the table
 
 pub object-in : (o : ℕ) → 1 ≤ o → o ≤ 8 → isObject depots o ≡ true
+unfolding isObject
 object-in = eight (λ (o : ℕ). isObject depots o ≡ true) refl refl refl refl refl refl refl refl
 
 pub cell-in : (k o : ℕ) → 1 ≤ o → o ≤ 8 → isCell depots o k ≡ leb k (at (o - 1) .highest)
+unfolding isCell
 cell-in k =
     eight (λ (o : ℕ). isCell depots o k ≡ leb k (at (o - 1) .highest))
     (or-false _) (or-false _) (or-false _) (or-false _) (or-false _) (or-false _) (or-false _) (or-false _)
 
 pub marked-in : (o : ℕ) → 1 ≤ o → o ≤ 8 → isMarked depots o ≡ at (o - 1) .marked
+unfolding isMarked
 marked-in = eight (λ (o : ℕ). isMarked depots o ≡ at (o - 1) .marked) refl refl refl refl refl refl refl refl
 
 -- the bit of each object, over all bytes at once: the set is k / 8, the place k % 8
@@ -116,7 +123,7 @@ bitRule : ℕ → Bool
 bitRule k = Bool·beq (mem (k % 8 + 1) (hosted depots (k / 8))) (eqb (k / 8 / 2 ^ (k % 8) % 2) 1)
 
 bits-right : (k : ℕ) → k < 2048 → bitRule k ≡ true
-unfolding bitRule first firstFrom
+unfolding bitRule hosted first firstFrom
 bits-right = every-below bitRule 2048 refl
 
 pub hosted-in : (set o : ℕ) → set < 256 → 1 ≤ o → o ≤ 8 → mem o (hosted depots set) ≡ eqb (set / 2 ^ (o - 1) % 2) 1

@@ -42,6 +42,7 @@ module _ (log : Log) (set : List ℕ) (room : ℕ) where
   act-fits p cs inert h = h
 
   step-fits : (p : ℕ) (cs : List Cell) → length cs ≤ room → length (cellsIn (step log set room p cs)) ≤ room
+  unfolding step
   step-fits p cs h = go (meets set (headerObjects log p (log .entry p)))
     where
       go : (b : Bool) → length (cellsIn (cond b (act log set room p cs (effect (log .entry p))) (going cs))) ≤ room

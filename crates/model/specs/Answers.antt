@@ -42,7 +42,7 @@ abbrev pub slots : Log → ℕ
 slots log = log .size / slotSize
 
 -- 1 frame: "length not whole slots, over 131,072 slots, or tail above the slots"
-abbrev pub badFrame : Log → Bool
+unfoldable pub badFrame : Log → Bool
 badFrame log = not (eqb (log .size % slotSize) 0) || ltb mostSlots (slots log) || ltb (slots log) (log .tail)
 
 -- 1 and 2, with which every call on a log begins

@@ -14,13 +14,13 @@ use Rattle.lists.specs.First.{first, firstFrom}
 use Rattle.lists.specs.Picks.{picks}
 use Rattle.lists.specs.Equal.{eqList}
 use Rattle.lists.specs.Sets.{all, isEmpty, mem, meets}
-use Rattle.model.specs.Objects.{Object, ObjectKind, aMap, aRegister, Shape, okShape}
+use Rattle.model.specs.Objects.{Object, ObjectKind, aMap, aRegister, Shape, okShape, isObject, isCell, isMarked, hosted}
 use Rattle.model.specs.Entries.{Read, Held, Claim, Log, commitAt, ifSome, isNone, writesOf, closed, decided, headerObjects, numberOf, earlier, commitObjects, ofObject}
 use Rattle.model.specs.Slot.{writeBytes, writeAt, readBytes, readAt, savedBytes, savedAt, itemBytes, itemCount, headerOf, slotOf, decode, slot, logIn}
-use Rattle.model.specs.Rules.{okEntry, lowest, lowestBad}
-use Rattle.model.specs.Table.{Cell, Holds, cellAt, cellBytes, cellsOf, tableWith, capacity, apply, savedOf, versionIn}
-use Rattle.model.specs.Play.{play, commitsOver, outcome}
-use Rattle.model.specs.Answers.{Refusal, Answer, done, refused}
+use Rattle.model.specs.Rules.{okEntry, lowest, lowestBad, okWrite, okWrites, okRead, okReads, okSaved, narrow, goodAt}
+use Rattle.model.specs.Table.{Cell, Holds, cellAt, cellBytes, cellsOf, tableWith, capacity, apply, savedOf, versionIn, lookup, store}
+use Rattle.model.specs.Play.{play, commitsOver, outcome, step}
+use Rattle.model.specs.Answers.{Refusal, Answer, done, refused, badFrame}
 use Rattle.model.specs.Reading.{Info, check, owed, entryCall, itemList, infoIn}
 use Rattle.model.specs.Append.{Replica, Request, update, commits, decides, saves, entryOf, ownTests, append}
 use Rattle.model.specs.Replica.{Left, openFresh, openAt, playCall, readCell, audit, sameContent}
@@ -284,13 +284,13 @@ refusing =
     ∷ []
 
 pub playing-hold : all sampleHolds playing ≡ true
-unfolding sampleHolds beAt bytesOf splice values joined first firstFrom picks eqList writesOf closed decided headerObjects numberOf earlier writeBytes writeAt readBytes readAt savedBytes savedAt itemBytes itemCount headerOf slotOf decode slot logIn okEntry lowest lowestBad cellAt cellBytes cellsOf tableWith apply savedOf play commitsOver owed entryCall itemList infoIn entryOf ownTests append openFresh openAt playCall readCell audit accept runAt grown feed
+unfolding sampleHolds beAt bytesOf splice values joined first firstFrom picks eqList writesOf closed decided headerObjects numberOf earlier writeBytes writeAt readBytes readAt savedBytes savedAt itemBytes itemCount headerOf slotOf decode slot logIn okEntry lowest lowestBad cellAt cellBytes cellsOf tableWith apply savedOf play commitsOver owed entryCall itemList infoIn entryOf ownTests append openFresh openAt playCall readCell audit accept runAt grown feed isObject isCell isMarked hosted okWrite okWrites okRead okReads okSaved narrow goodAt lookup store step badFrame
 playing-hold = refl
 
 pub checkpoints-hold : all sampleHolds checkpoints ≡ true
-unfolding sampleHolds beAt bytesOf splice values joined first firstFrom picks eqList writesOf closed decided headerObjects numberOf earlier writeBytes writeAt readBytes readAt savedBytes savedAt itemBytes itemCount headerOf slotOf decode slot logIn okEntry lowest lowestBad cellAt cellBytes cellsOf tableWith apply savedOf play commitsOver owed entryCall itemList infoIn entryOf ownTests append openFresh openAt playCall readCell audit accept runAt grown feed
+unfolding sampleHolds beAt bytesOf splice values joined first firstFrom picks eqList writesOf closed decided headerObjects numberOf earlier writeBytes writeAt readBytes readAt savedBytes savedAt itemBytes itemCount headerOf slotOf decode slot logIn okEntry lowest lowestBad cellAt cellBytes cellsOf tableWith apply savedOf play commitsOver owed entryCall itemList infoIn entryOf ownTests append openFresh openAt playCall readCell audit accept runAt grown feed isObject isCell isMarked hosted okWrite okWrites okRead okReads okSaved narrow goodAt lookup store step badFrame
 checkpoints-hold = refl
 
 pub refusing-hold : all sampleHolds refusing ≡ true
-unfolding sampleHolds beAt bytesOf splice values joined first firstFrom picks eqList writesOf closed decided headerObjects numberOf earlier writeBytes writeAt readBytes readAt savedBytes savedAt itemBytes itemCount headerOf slotOf decode slot logIn okEntry lowest lowestBad cellAt cellBytes cellsOf tableWith apply savedOf play commitsOver owed entryCall itemList infoIn entryOf ownTests append openFresh openAt playCall readCell audit accept runAt grown feed
+unfolding sampleHolds beAt bytesOf splice values joined first firstFrom picks eqList writesOf closed decided headerObjects numberOf earlier writeBytes writeAt readBytes readAt savedBytes savedAt itemBytes itemCount headerOf slotOf decode slot logIn okEntry lowest lowestBad cellAt cellBytes cellsOf tableWith apply savedOf play commitsOver owed entryCall itemList infoIn entryOf ownTests append openFresh openAt playCall readCell audit accept runAt grown feed isObject isCell isMarked hosted okWrite okWrites okRead okReads okSaved narrow goodAt lookup store step badFrame
 refusing-hold = refl

@@ -52,7 +52,7 @@ abbrev pub heldBy : Cell → Held
 heldBy c = record { version = c .version; content = cond (eqb c.present 1) (some (c .value)) none }
 
 -- "If a caller's table has a cell twice, the first counts"
-abbrev pub lookup : List Cell → Holds
+unfoldable pub lookup : List Cell → Holds
 lookup [] o k = none
 lookup (c ∷ cs) o k = cond (isOf o k c) (some (heldBy c)) (lookup cs o k)
 
@@ -64,7 +64,7 @@ abbrev pub cellOf : ℕ → ℕ → Held → Cell
 cellOf o k h = record { object = o; key = k; value = valueField (h .content); present = presentField (h .content); version = h .version }
 
 -- a cell written: in its place, or as the last, "in order of first writing"
-abbrev pub store : List Cell → ℕ → ℕ → Held → List Cell
+unfoldable pub store : List Cell → ℕ → ℕ → Held → List Cell
 store [] o k h = cellOf o k h ∷ []
 store (c ∷ cs) o k h = cond (isOf o k c) (cellOf o k h ∷ cs) (c ∷ store cs o k h)
 

@@ -12,13 +12,13 @@ use Rattle.lists.specs.Rows.{values, joined}
 use Rattle.lists.specs.First.{first, firstFrom}
 use Rattle.lists.specs.Equal.{eqList}
 use Rattle.lists.specs.Sets.{all}
-use Rattle.model.specs.Objects.{depots}
+use Rattle.model.specs.Objects.{depots, isObject, isCell, isMarked, hosted}
 use Rattle.model.specs.Entries.{Write, Read, Held, Entry, checkpoint, Log, writesOf, closed, decided, headerObjects, numberOf, earlier}
 use Rattle.model.specs.Slot.{writeBytes, writeAt, readBytes, readAt, savedBytes, savedAt, itemBytes, itemCount, headerOf, slotOf, decode, slot, logIn}
-use Rattle.model.specs.Rules.{okEntry, lowest, lowestBad}
-use Rattle.model.specs.Table.{Cell, cellAt, cellBytes, cellsOf, tableWith, apply, savedOf, cellOf}
-use Rattle.model.specs.Play.{play, commitsOver}
-use Rattle.model.specs.Answers.{Answer, done, refused}
+use Rattle.model.specs.Rules.{okEntry, lowest, lowestBad, okWrite, okWrites, okRead, okReads, okSaved, narrow, goodAt}
+use Rattle.model.specs.Table.{Cell, cellAt, cellBytes, cellsOf, tableWith, apply, savedOf, cellOf, lookup, store}
+use Rattle.model.specs.Play.{play, commitsOver, step}
+use Rattle.model.specs.Answers.{Answer, done, refused, badFrame}
 use Rattle.model.specs.Append.{Replica, Request, update, commits, decides, saves, entryOf, ownTests, append}
 use Rattle.model.specs.Replica.{Left, playCall, audit, openAt, openFresh}
 use Rattle.model.specs.Report.{Outcome, Report, outcomes, report}
@@ -123,5 +123,5 @@ rows =
     ∷ []
 
 pub worked : all rowHolds rows ≡ true
-unfolding rowHolds beAt bytesOf splice values joined first firstFrom eqList writesOf closed decided headerObjects numberOf earlier writeBytes writeAt readBytes readAt savedBytes savedAt itemBytes itemCount headerOf slotOf decode slot logIn okEntry lowest lowestBad cellAt cellBytes cellsOf tableWith apply savedOf play commitsOver entryOf ownTests append playCall audit outcomes report grown
+unfolding rowHolds beAt bytesOf splice values joined first firstFrom eqList writesOf closed decided headerObjects numberOf earlier writeBytes writeAt readBytes readAt savedBytes savedAt itemBytes itemCount headerOf slotOf decode slot logIn okEntry lowest lowestBad cellAt cellBytes cellsOf tableWith apply savedOf play commitsOver entryOf ownTests append playCall audit outcomes report grown isObject isCell isMarked hosted okWrite okWrites okRead okReads okSaved narrow goodAt lookup store step badFrame
 worked = refl
