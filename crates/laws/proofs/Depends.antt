@@ -9,16 +9,16 @@ use lib.ListN.{length, take, drop, getD, length-append}
 use lib.Seq.{getD-take, take-at, drop-at}
 use Rattle.lists.specs.Bytes.{beAt, beAt-same, length-bytesOf}
 use Rattle.lists.specs.Rows.{values, joined, values-same}
 use Rattle.model.specs.Objects.{Shape, everything}
 use Rattle.model.specs.Entries.{Log}
 use Rattle.model.specs.Slot.{slotOf, logIn, logOf}
 use Rattle.model.specs.Table.{Cell, cellAt, cellBytes, cellsOf, tableWith, capacity}
 use Rattle.model.specs.Play.{Played, going, waits, lacks}
 use Rattle.model.specs.Answers.{Refusal, Answer, firstOf, frameAndEntries}
 use Rattle.model.specs.Reading.{check, owed, entryCall, itemList, streamNext, streamList}
 use Rattle.model.specs.Append.{Replica, Request, saves, entryOf, ownTests, appendRefusal, appendGiven, append}
 use Rattle.model.specs.Replica.{Left, leftWith, Checkpoint, checkpointIn, openRefusal, openGiven, openAt, playFrom, playRefusal, playGiven, playCall, readCell, auditPlay, lowestFalse, auditGiven, audit}
-use Rattle.model.proofs.Tables.{length-stored}
+use Rattle.laws.proofs.Tables.{length-stored}
 
 -- ---- the log
 

@@ -12,8 +12,8 @@ use borrow.Author.Tests.{ltb-true}
 use Rattle.lists.specs.Bytes.{beAt, bytesOf, bytesOf-beAt}
 use Rattle.lists.specs.Rows.{joined, values, length-values, length-joined, values-same, values-joined, joined-values}
 use Rattle.lists.specs.Sets.{all, all-getD}
 use Rattle.model.specs.Table.{Cell, cellAt, cellBytes, cellsOf, tableWith}
-use Rattle.model.proofs.Items.{fitsCell, length-cell, cell-back}
+use Rattle.laws.proofs.Items.{fitsCell, length-cell, cell-back}
 
 pub length-cells : (table : List ℕ) (count : ℕ) → length (cellsOf table count) ≡ count
 unfolding cellsOf

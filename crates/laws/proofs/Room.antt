@@ -11,16 +11,16 @@ use lib.Dec.{leb}
 use lib.ListN.{length, drop, length-append, length-drop}
 use Rattle.lists.specs.Rows.{values, joined}
 use Rattle.lists.specs.Sets.{meets}
 use Rattle.model.specs.Objects.{Shape, hosted}
 use Rattle.model.specs.Entries.{Write, Effect, writes, aside, tries, inert, effect, Log, writesOf, headerObjects}
 use Rattle.model.specs.Table.{Cell, cellBytes, cellsOf, tableWith, capacity, apply}
 use Rattle.model.specs.Play.{Played, going, waits, lacks, cellsIn, versionAt, outcome, make, finish, act, step, andThen, play}
 use Rattle.model.specs.Answers.{Refusal, refuse, frameAndEntries}
 use Rattle.model.specs.Append.{Replica, badReplica}
 use Rattle.model.specs.Replica.{Left, badStop, playRefusal, playFrom, playGiven, playCall}
 use Rattle.lists.specs.Tests.{ors}
-use Rattle.model.proofs.Refusals.{all-pass, refuse-none}
-use Rattle.model.proofs.Tables.{length-cells, length-stored}
+use Rattle.laws.proofs.Refusals.{all-pass, refuse-none}
+use Rattle.laws.proofs.Tables.{length-cells, length-stored}
 
 module _ (log : Log) (set : List ℕ) (room : ℕ) where
   make-fits : (p : ℕ) (ws : List Write) (cs : List Cell) → length cs ≤ room → length (cellsIn (make set room p ws cs)) ≤ room

@@ -1,0 +1,1 @@
+// Laws of the model's definitions (see proofs/). There are no functions.
