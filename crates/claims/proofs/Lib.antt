@@ -1,1 +1,2 @@
 pub mod Aborts
+pub mod KeepsGood
