@@ -1,2 +1,3 @@
 pub mod Aborts
 pub mod KeepsGood
+pub mod ReadBack
