@@ -20,14 +20,14 @@ use Rattle.model.specs.Objects.{Shape, isCell, isObject, okShape}
 use Rattle.model.specs.Entries.{Write, Read, Entry, plain, numbered, commit, decision, checkpoint, blank, Log, Commit, effect, asideUnder, commitAt, ifSome, writtenObjects, writesOf, commitObjects, headerObjects, numberOf}
 use Rattle.model.specs.Slot.{markOf, markUpdate, markCommit, markDecision, markCheckpoint, headerOf, writeBytes, writeAt, readBytes, readAt, itemBytes, itemCount, slotOf, updateIn, logIn, logOf}
 use Rattle.model.specs.Rules.{okWrite, okWrites, okReads, okEntry}
-use Rattle.model.specs.Answers.{Refusal, Answer, done, answer, frameAndEntries}
+use Rattle.model.specs.Answers.{Refusal, Answer, done, refuse, answer, frameAndEntries}
 use Rattle.model.specs.Reading.{Info, Header, headerAt, kindIn, infoIn, entryRefusal, entryCall, stretch, orEmpty, itemList}
 use Rattle.model.specs.Append.{Request, update, commits, decides, saves, itemsGiven, writesGiven, claimGiven, entryOf, notWhole, ownTests, appendRefusal, appendGiven, append}
 use Rattle.model.specs.Claims.{Lent, inLog, tailAfter, isRefused, appendTo, after, Bytes, givenItems, kindGiven, infoBack, itemsBack, headerObjectsIn, Accepted, Back, ReadsBack}
 use Rattle.model.proofs.Items.{length-write, length-read, cell-small}
 use Rattle.model.proofs.Slots.{Kept, length-header, header-object, headers-few, number-fits, items-few, object-small, slot-mark, slot-headers, slot-count, slot-number, slot-header, slot-items}
 use Rattle.model.proofs.Refusals.{AllPass, all-pass, refuse-none, good-below}
-use Rattle.model.proofs.Appends.{accepted, good-obeys}
+use Rattle.model.proofs.Appends.{Accepted as Exit, accepted, good-obeys}
 
 -- ---- header objects have 31 bits
 
@@ -124,3 +124,140 @@ module _ (log : Log) (p : ℕ) (e : Entry) (few : length (headerObjects log p e)
 
       at : (k : ℕ) → k < length (headerObjects log p e) → beAt 4 (slotOf log p e) (8 + 12 * k) ≡ beAt 4 (headersOf ++ []) (0 + 12 * k)
       at k h = slot-header log p e 4 (12 * k) (omega (arith, size)) ∙ ap₂ (beAt 4) (sym (append-nil headersOf)) (sym (zero-add (12 * k)))
+
+-- ---- items that came as bytes
+
+module _ (items : List ℕ) (bytes : Bytes items) where
+  word : (n i : ℕ) → i + n ≤ length items → bytesOf n (beAt n items i) ≡ take n (drop i items)
+  word n i h = bytesOf-beAt n items i (λ k l. ltb-true _ 256 (all-getD (λ x. ltb x 256) items (i + k) 0 bytes refl)) h
+
+  -- one number more
+  next : (m n i : ℕ) {xs : List ℕ} → i + m + n ≤ length items → xs ≡ take m (drop i items) → xs ++ bytesOf n (beAt n items (i + m)) ≡ take (m + n) (drop i items)
+  next m n i h e =
+      ap₂ (λ (a b : List ℕ). a ++ b) e (word n (i + m) h ∙ ap (take n) (sym (drop-drop m i items))) ∙ sym (take-add m n (drop i items))
+
+  write-bytes : (i : ℕ) → i + 16 ≤ length items → writeBytes (writeAt items i) ≡ take 16 (drop i items)
+  unfolding writeAt writeBytes
+  write-bytes i h = next 12 4 i (omega arith) (next 8 4 i (omega arith) (next 4 4 i (omega arith) (word 4 i (omega arith))))
+
+  read-bytes : (i : ℕ) → i + 16 ≤ length items → readBytes (readAt items i) ≡ take 16 (drop i items)
+  unfolding readAt readBytes
+  read-bytes i h = next 8 8 i (omega arith) (next 4 4 i (omega arith) (word 4 i (omega arith)))
+
+  -- whole items, read and stored again
+  module _ {A : Type 0} (put : A → List ℕ) (get : List ℕ → ℕ → A) (again : (i : ℕ) → i + 16 ≤ length items → put (get items i) ≡ take 16 (drop i items)) where
+    stored-again : length items % 16 ≡ 0 → joined put (itemsGiven get items) ≡ items
+    stored-again whole =
+        let n : ℕ = length items / 16 in
+        ap (joined put) (values-same _ (λ i. get items (0 + 16 * i)) 0 n (λ k l m. ap (get items) (sym (zero-add (16 * k)))))
+        ∙ joined-values put get 16 items 0 n (λ k l. again (0 + 16 * k) (omega arith))
+        ∙ take-all (16 * n) items (omega arith)
+
+update-items : (n : ℕ) (ws : List Write) → itemBytes (updateIn n ws) ≡ joined writeBytes ws
+unfolding itemBytes
+update-items n ws = by (eqb n 0)
+  where
+    by : (b : Bool) → itemBytes (cond b (plain ws) (numbered n ws)) ≡ joined writeBytes ws
+    by true = refl
+    by false = refl
+
+-- the first test of updates and commits passed
+whole-items : (items : List ℕ) (a b : Bool) → refuse 3 (notWhole items || a || b) ≡ none → length items % 16 ≡ 0
+whole-items items a b e =
+    let h : (notWhole items || a || b) ≡ false = refuse-none 3 (notWhole items || a || b) e in
+    eqb-true (length items % 16) 0 (not-false _ (search ors))
+
+-- the bytes of the entry's items are the items given
+same-items : (sh : Shape) (log : Log) (q : Request) → AllPass (ownTests sh log q) → Bytes (givenItems q) → itemBytes (entryOf q) ≡ givenItems q
+unfolding ownTests entryOf itemBytes
+same-items sh log (update n items) h bytes =
+    update-items n (writesGiven items) ∙ stored-again items bytes writeBytes writeAt (write-bytes items bytes) (whole-items items _ _ (h .0))
+same-items sh log (commits n items) h bytes = stored-again items bytes readBytes readAt (read-bytes items bytes) (whole-items items _ _ (h .0))
+same-items sh log (decides o v) h bytes = refl
+same-items sh log (saves r table o) h bytes = refl
+
+-- ---- the kind
+
+kind-marked : (s : List ℕ) (q : Request) → beAt 2 s 0 ≡ markOf (entryOf q) → kindIn s ≡ kindGiven q
+unfolding entryOf
+kind-marked s (update n items) e = rw (e ∙ by (eqb n 0))
+  where
+    by : (b : Bool) → markOf (cond b (plain (writesGiven items)) (numbered n (writesGiven items))) ≡ markUpdate
+    by true = refl
+    by false = refl
+kind-marked s (commits n items) e = rw e
+kind-marked s (decides o v) e = rw e
+kind-marked s (saves r table o) e = rw e
+
+-- ---- what an accepted append left
+
+not-refused : (bytes s : List ℕ) (tail : ℕ) (x : Option Refusal) → isRefused (appendGiven bytes tail s x .newTail) ≡ false → x ≡ none
+not-refused bytes s tail none e = refl
+not-refused bytes s tail (some r) e = clash true refl e
+
+module _ (sh : Shape) (shape : okShape sh ≡ true) (l : Lent) (q : Request) (taken : Accepted sh l q) where
+  -- the slot of the entry, over the log as it was
+  abbrev pub itsSlot : List ℕ
+  itsSlot = slotOf (inLog l) (l .tail) (entryOf q)
+
+  passes : appendRefusal sh (inLog l) q ≡ none
+  unfolding append logIn
+  passes = not-refused (l .bytes) itsSlot (l .tail) (appendRefusal sh (inLog l) q) taken
+
+  own-tests : AllPass (ownTests sh (inLog l) q)
+  own-tests = all-pass (frameAndEntries sh (inLog l) ++ ownTests sh (inLog l) q) passes .1 .1
+
+  wrote : appendTo sh l q ≡ record { newTail = done (l .tail + 1); bytes = splice (l .bytes) (256 * l .tail) itsSlot }
+  unfolding append logIn
+  wrote = ap (λ x. appendGiven (l .bytes) (l .tail) itsSlot x) passes
+
+  pub left-bytes : after sh l q .bytes ≡ splice (l .bytes) (256 * l .tail) itsSlot
+  left-bytes = ap (λ a. a .bytes) wrote
+
+  exit : Exit sh (l .bytes) (l .tail) q (l .tail + 1) (appendTo sh l q .bytes)
+  exit = accepted sh (l .bytes) (l .tail) q (l .tail + 1) shape (ap (λ a. a .newTail) wrote)
+
+  kept : Kept sh (inLog l) (l .tail)
+  unfolding logIn
+  kept o h = good-obeys sh (inLog l) o (good-below sh (inLog l) (exit .was-good) o h)
+
+  few-headers : length (headerObjects (inLog l) (l .tail) (entryOf q)) ≤ 4
+  few-headers = headers-few sh (inLog l) shape (l .tail) (entryOf q) kept (exit .obeyed)
+
+  few-items : itemCount (entryOf q) ≤ 12
+  few-items = items-few sh (inLog l) shape (l .tail) (entryOf q) (exit .obeyed)
+
+  -- the calls on the log that was left
+
+  new-log : inLog (after sh l q) ≡ logOf (appendTo sh l q .bytes) (l .tail + 1)
+  new-log = ap (λ a. logOf (appendTo sh l q .bytes) (tailAfter (l .tail) (a .newTail))) wrote
+
+  nothing-refuses : entryRefusal sh (logOf (appendTo sh l q .bytes) (l .tail + 1)) (l .tail) ≡ none
+  unfolding logIn
+  nothing-refuses = rw (exit .frame, exit .good, lt-leb (l .tail + 1) (l .tail) (omega arith))
+
+  pub info-left : infoBack sh l q ≡ done (infoIn itsSlot)
+  unfolding entryCall logIn
+  info-left = ap (λ log. entryCall sh log (l .tail)) new-log ∙ ap₂ answer nothing-refuses (ap infoIn (exit .written))
+
+  pub items-left : itemsBack sh l q ≡ itemBytes (entryOf q)
+  unfolding itemList logIn
+  items-left =
+      ap (λ log. itemList sh log (l .tail)) new-log
+      ∙ ap₂ orEmpty nothing-refuses (ap stretch (exit .written))
+      ∙ ap (λ (n : ℕ). take (16 * n) (drop 56 itsSlot)) (slot-count (inLog l) (l .tail) (entryOf q) few-items)
+      ∙ slot-items (inLog l) (l .tail) (entryOf q) few-headers
+
+  read-back : Back sh l q
+  unfolding infoIn
+  read-back = record {
+    info = infoIn itsSlot;
+    reads = info-left;
+    kind = kind-marked itsSlot q (slot-mark (inLog l) (l .tail) (entryOf q));
+    number = slot-number (inLog l) (l .tail) (entryOf q) (number-fits sh (inLog l) shape (l .tail) (entryOf q) kept (exit .obeyed));
+    objects = objects-read (inLog l) (l .tail) (entryOf q) few-headers (headers-small sh shape (inLog l) (l .tail) (entryOf q) kept (exit .obeyed));
+    items = λ bytes. items-left ∙ same-items sh (inLog l) q own-tests bytes;
+  }
+
+pub reads-back : (sh : Shape) → okShape sh ≡ true → ReadsBack sh
+reads-back sh shape l q taken = read-back sh shape l q taken
