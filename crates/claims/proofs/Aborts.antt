@@ -5,7 +5,6 @@ use mathlib.Core.Logic.{_↔_, _⊎_, inl, inr}
 use mathlib.Core.Bool.{Bool, true, false, cond, _&&_}
 use mathlib.Core.List.{List, [], _∷_, List·Memᴰ, List·Memᴰ·head, List·Memᴰ·tail, List·Memᴰ·cases-cons, List·Memᴰ·not-nil}
 use mathlib.Core.Option.{Option, none, some, Option·some-injective}
-use Prim.Native.Nat.{ℕ}
 use lib.Dec.{eqb}
 use borrow.Author.Tests.{eqb-false, ne-eqb}
 use Rattle.lists.specs.Sets.{all}
@@ -13,10 +12,10 @@ use Rattle.lists.specs.Tests.{clash}
 use Rattle.model.specs.Objects.{Shape}
 use Rattle.model.specs.Entries.{Read, Held, Claim}
 use Rattle.model.specs.Table.{Holds, versionIn, lookup, cellsOf}
-use Rattle.model.specs.Play.{commitsOver, alone, outcome}
-use Rattle.model.specs.Append.{commits, claimGiven}
-use Rattle.model.specs.Run.{Run, hasVersion, current, accept, madeAll}
-use Rattle.model.specs.Claims.{Stale, RunAborts, ReplicaAborts, Carried, hosts}
+use Rattle.model.specs.Play.{commitsOver}
+use Rattle.model.specs.Append.{claimGiven}
+use Rattle.model.specs.Run.{hasVersion, current, accept, madeAll}
+use Rattle.model.specs.Claims.{Stale, RunAborts, ReplicaAborts}
 
 -- ---- a list's test that fails
 

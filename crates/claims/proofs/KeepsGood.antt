@@ -1,10 +1,10 @@
 -- A log grown by appends from an empty one has no bad entry: an accepted append leaves none, a refused one leaves the log as it
 -- was, and an empty log has no entry; by induction over the appends.
-use mathlib.Core.Path.{_≡_, refl, ap₂, subst, sym, _∙_}
+use mathlib.Core.Path.{_≡_, refl}
 use mathlib.Core.Bool.{true}
 use mathlib.Core.List.{List, [], _∷_}
 use mathlib.Core.Option.{none}
-use Prim.Native.Nat.{ℕ, _+_}
+use Prim.Native.Nat.{ℕ}
 use native.Mathlib.Omega.{arith}
 use Rattle.model.specs.Objects.{Shape, okShape}
 use Rattle.model.specs.Slot.{logIn, logOf}

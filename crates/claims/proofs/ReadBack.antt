@@ -1,30 +1,30 @@
 -- What an accepted append wrote reads back as what was given: the slot at the old tail is the entry's `slotOf`, whose numbers,
 -- header objects and items the laws of slots read back; and items that came as bytes, read and stored again, are those bytes.
 use mathlib.Core.Path.{_≡_, refl, ap, ap₂, sym, _∙_}
-use mathlib.Core.Bool.{Bool, true, false, cond, not, _&&_, _||_, false≢true}
+use mathlib.Core.Bool.{Bool, true, false, cond, _||_}
 use mathlib.Core.List.{List, [], _∷_, _++_, map, append-nil}
 use mathlib.Core.Option.{Option, none, some}
 use Prim.Native.Nat.{ℕ, zero, suc, _+_, _*_, _/_, _%_, _^_, _≤_, _<_}
 use native.Mathlib.Nat.{add-zero, zero-add}
 use native.Mathlib.Omega.{arith}
-use lib.Dec.{eqb, leb, ltb}
-use lib.ListN.{length, getD, take, drop}
+use lib.Dec.{eqb, ltb}
+use lib.ListN.{length, take, drop}
 use lib.Seq.{take-add, take-all, drop-drop}
 use borrow.Author.Tests.{ltb-true, lt-ltb, lt-leb, eqb-true, not-false}
 use Rattle.lists.specs.Tests.{ands, and-l, and-r, both, ors, clash}
-use Rattle.lists.specs.Sets.{all, insertOnce, ascendingSet, all-getD, all-weaken}
+use Rattle.lists.specs.Sets.{all, insertOnce, ascendingSet, all-getD}
 use Rattle.lists.specs.Rows.{values, joined, length-joined, values-same, values-joined, joined-values}
 use Rattle.lists.specs.Bytes.{beAt, bytesOf, bytesOf-beAt, beAt-part}
 use Rattle.lists.specs.Splice.{splice}
 use Rattle.model.specs.Objects.{Shape, isCell, isObject, okShape}
-use Rattle.model.specs.Entries.{Write, Read, Entry, plain, numbered, commit, decision, checkpoint, blank, Log, Commit, effect, asideUnder, commitAt, ifSome, writtenObjects, writesOf, commitObjects, headerObjects, numberOf}
-use Rattle.model.specs.Slot.{markOf, markUpdate, markCommit, markDecision, markCheckpoint, headerOf, writeBytes, writeAt, readBytes, readAt, itemBytes, itemCount, slotOf, updateIn, logIn, logOf}
-use Rattle.model.specs.Rules.{okWrite, okWrites, okReads, okEntry}
-use Rattle.model.specs.Answers.{Refusal, Answer, done, refuse, answer, frameAndEntries}
-use Rattle.model.specs.Reading.{Info, Header, headerAt, kindIn, infoIn, entryRefusal, entryCall, stretch, orEmpty, itemList}
-use Rattle.model.specs.Append.{Request, update, commits, decides, saves, itemsGiven, writesGiven, claimGiven, entryOf, notWhole, ownTests, appendRefusal, appendGiven, append}
+use Rattle.model.specs.Entries.{Write, Entry, plain, numbered, commit, decision, checkpoint, blank, Log, Commit, effect, asideUnder, commitAt, ifSome, writtenObjects, writesOf, commitObjects, headerObjects}
+use Rattle.model.specs.Slot.{markOf, markUpdate, headerOf, writeBytes, writeAt, readBytes, readAt, itemBytes, itemCount, slotOf, updateIn, logIn, logOf}
+use Rattle.model.specs.Rules.{okWrite, okWrites, okEntry}
+use Rattle.model.specs.Answers.{Refusal, done, refuse, answer, frameAndEntries}
+use Rattle.model.specs.Reading.{Header, headerAt, kindIn, infoIn, entryRefusal, entryCall, stretch, orEmpty, itemList}
+use Rattle.model.specs.Append.{Request, update, commits, decides, saves, itemsGiven, writesGiven, entryOf, notWhole, ownTests, appendRefusal, appendGiven, append}
 use Rattle.model.specs.Claims.{Lent, inLog, tailAfter, isRefused, appendTo, after, Bytes, givenItems, kindGiven, infoBack, itemsBack, headerObjectsIn, Accepted, Back, ReadsBack}
-use Rattle.model.proofs.Items.{length-write, length-read, cell-small}
+use Rattle.model.proofs.Items.{cell-small}
 use Rattle.model.proofs.Slots.{Kept, length-header, header-object, headers-few, number-fits, items-few, object-small, slot-mark, slot-headers, slot-count, slot-number, slot-header, slot-items}
 use Rattle.model.proofs.Refusals.{AllPass, all-pass, refuse-none, good-below}
 use Rattle.model.proofs.Appends.{Accepted as Exit, accepted, good-obeys}
@@ -178,13 +178,16 @@ same-items sh log (saves r table o) h bytes = refl
 
 -- ---- the kind
 
-kind-marked : (s : List ℕ) (q : Request) → beAt 2 s 0 ≡ markOf (entryOf q) → kindIn s ≡ kindGiven q
-unfolding entryOf
-kind-marked s (update n items) e = rw (e ∙ by (eqb n 0))
+pub update-mark : (n : ℕ) (ws : List Write) → markOf (updateIn n ws) ≡ markUpdate
+update-mark n ws = by (eqb n 0)
   where
-    by : (b : Bool) → markOf (cond b (plain (writesGiven items)) (numbered n (writesGiven items))) ≡ markUpdate
+    by : (b : Bool) → markOf (cond b (plain ws) (numbered n ws)) ≡ markUpdate
     by true = refl
     by false = refl
+
+kind-marked : (s : List ℕ) (q : Request) → beAt 2 s 0 ≡ markOf (entryOf q) → kindIn s ≡ kindGiven q
+unfolding entryOf
+kind-marked s (update n items) e = rw (e ∙ update-mark n (writesGiven items))
 kind-marked s (commits n items) e = rw e
 kind-marked s (decides o v) e = rw e
 kind-marked s (saves r table o) e = rw e
