@@ -1,0 +1,4 @@
+pub mod Aborts
+pub mod KeepsGood
+pub mod ReadBack
+pub mod SameBytes

@@ -1,0 +1,100 @@
+-- A transaction aborts exactly on a stale read, in the run and in a replica that hosts all objects read: each of the two tests
+-- fails exactly for a read of another version than its cell's, and a list's test fails exactly where one of its elements does.
+use mathlib.Core.Path.{_≡_, refl, ap, sym, _∙_}
+use mathlib.Core.Logic.{_↔_, _⊎_, inl, inr}
+use mathlib.Core.Bool.{Bool, true, false, cond, _&&_}
+use mathlib.Core.List.{List, [], _∷_, List·Memᴰ, List·Memᴰ·head, List·Memᴰ·tail, List·Memᴰ·cases-cons, List·Memᴰ·not-nil}
+use mathlib.Core.Option.{Option, none, some, Option·some-injective}
+use lib.Dec.{eqb}
+use borrow.Author.Tests.{eqb-false, ne-eqb}
+use Rattle.lists.specs.Sets.{all}
+use Rattle.lists.specs.Tests.{clash}
+use Rattle.model.specs.Objects.{Shape}
+use Rattle.model.specs.Entries.{Read, Held, Claim}
+use Rattle.model.specs.Table.{Holds, versionIn, lookup, cellsOf}
+use Rattle.model.specs.Play.{commitsOver}
+use Rattle.model.specs.Append.{claimGiven}
+use Rattle.model.specs.Run.{hasVersion, current, accept, madeAll}
+use Rattle.model.specs.Claims.{Stale, RunAborts, ReplicaAborts}
+
+-- ---- a list's test that fails
+
+module _ {A : Type 0} (f : A → Bool) where
+  pub all-false : (xs : List A) → all f xs ≡ false → (x : A) × List·Memᴰ x xs × (f x ≡ false)
+  all-false [] e = clash true refl e
+  all-false (x ∷ xs) e = by (f x) refl e (λ r. all-false xs r)
+    where
+      by : (b : Bool) → f x ≡ b → (b && all f xs) ≡ false → (all f xs ≡ false → (y : A) × List·Memᴰ y xs × (f y ≡ false))
+          → (y : A) × List·Memᴰ y (x ∷ xs) × (f y ≡ false)
+      by true q r ih = let (y, m, h) = ih r in (y, List·Memᴰ·tail m, h)
+      by false q r ih = (x, List·Memᴰ·head refl, q)
+
+  pub false-all : (x : A) (xs : List A) → List·Memᴰ x xs → f x ≡ false → all f xs ≡ false
+  false-all x [] m h = absurd (List·Memᴰ·not-nil m)
+  false-all x (y ∷ ys) m h = by (List·Memᴰ·cases-cons m) (λ n. false-all x ys n h) (f y) refl
+    where
+      by : (x ≡ y) ⊎ List·Memᴰ x ys → (List·Memᴰ x ys → all f ys ≡ false) → (b : Bool) → f y ≡ b → (b && all f ys) ≡ false
+      by (inl e) ih true q = clash (f y) q (ap f (sym e) ∙ h)
+      by (inr n) ih true q = ih n
+      by s ih false q = refl
+
+-- ---- stale reads, by any test that fails exactly for a read of another version
+
+module _ (cells : Holds) (test : Read → Bool) (exact : (x : Read) → (test x ≡ false) ↔ (versionIn (cells x.object x.key) ≡ x .version → ⊥)) where
+  pub stale-fails : (c : Claim) → Stale cells c → all test (c .reads) ≡ false
+  stale-fails c (x, m, h) = false-all test x (c .reads) m (exact x .1 h)
+
+  pub fails-stale : (c : Claim) → all test (c .reads) ≡ false → Stale cells c
+  fails-stale c e = let (x, m, h) = all-false test (c .reads) e in (x, m, exact x .0 h)
+
+-- ---- the run
+
+module _ (cells : Holds) where
+  fresh : Read → Bool
+  fresh x = hasVersion (x .version) (cells x.object x.key)
+
+  fresh-exact : (x : Read) → (fresh x ≡ false) ↔ (versionIn (cells x.object x.key) ≡ x .version → ⊥)
+  unfolding fresh
+  fresh-exact x = by (cells x.object x.key)
+    where
+      by : (h : Option Held) → (hasVersion (x .version) h ≡ false) ↔ (versionIn h ≡ x .version → ⊥)
+      by none = (λ e q. eqb-false (x .version) 0 e (sym q), λ n. ne-eqb (x .version) 0 (λ q. n (sym q)))
+      by (some h) = (λ e q. eqb-false (x .version) (h .version) e (sym q), λ n. ne-eqb (x .version) (h .version) (λ q. n (sym q)))
+
+  current-all : (xs : List Read) → current cells xs ≡ all fresh xs
+  unfolding fresh
+  current-all [] = refl
+  current-all (x ∷ xs) = ap (λ (t : Bool). hasVersion (x .version) (cells x.object x.key) && t) (current-all xs)
+
+  pub stale-old : (c : Claim) → Stale cells c → current cells (c .reads) ≡ false
+  stale-old c s = current-all (c .reads) ∙ stale-fails cells fresh fresh-exact c s
+
+  pub old-stale : (c : Claim) → current cells (c .reads) ≡ false → Stale cells c
+  old-stale c e = fails-stale cells fresh fresh-exact c (sym (current-all (c .reads)) ∙ e)
+
+pub run-aborts : RunAborts
+unfolding accept
+run-aborts count n items s = (λ stale. rw (stale-old (s .cells) c stale), λ none-stale. by (current (s .cells) (c .reads)) refl none-stale)
+  where
+    c : Claim
+    c = claimGiven items
+
+    by : (b : Bool) → current (s .cells) (c .reads) ≡ b → (Stale (s .cells) c → ⊥) → cond b (madeAll count (s .aside n) (s .cells)) (s .cells) ≡ madeAll count (s .aside n) (s .cells)
+    by true q h = refl
+    by false q h = absurd (h (old-stale (s .cells) c q))
+
+-- ---- a replica
+
+pub replica-aborts : (sh : Shape) → ReplicaAborts sh
+unfolding commitsOver
+replica-aborts sh l r c hosted =
+    rw hosted (λ e. fails-stale cells test exact c (Option·some-injective _ _ e), λ s. ap (λ (b : Bool). some b) (stale-fails cells test exact c s))
+  where
+    cells : Holds
+    cells = lookup (cellsOf (r .table) (r .replica .count))
+
+    test : Read → Bool
+    test x = eqb (versionIn (cells x.object x.key)) x.version
+
+    exact : (x : Read) → (test x ≡ false) ↔ (versionIn (cells x.object x.key) ≡ x .version → ⊥)
+    exact x = (eqb-false _ _, ne-eqb _ _)

@@ -1,0 +1,73 @@
+-- Two accepted appends over the same log whose entries read alike left the same bytes: each wrote the slot of its entry, and a
+-- slot is made of the mark, the header objects, the number of items, the number and the item bytes, which is what is read.
+use mathlib.Core.Path.{_≡_, refl, ap, sym, _∙_}
+use mathlib.Core.Bool.{true, cond}
+use Prim.Native.Nat.{ℕ, _*_}
+use native.Mathlib.Omega.{arith}
+use lib.Dec.{eqb}
+use lib.ListN.{length}
+use Rattle.lists.specs.Splice.{splice}
+use Rattle.model.specs.Objects.{Shape, okShape}
+use Rattle.model.specs.Entries.{Entry, Log, headerObjects, numberOf}
+use Rattle.model.specs.Slot.{markUpdate, markCommit, markDecision, markCheckpoint, markOf, itemBytes, itemCount, slotOf}
+use Rattle.model.specs.Answers.{Answer, done, refused}
+use Rattle.model.specs.Reading.{Info}
+use Rattle.model.specs.Append.{Request, update, commits, decides, saves, writesGiven, entryOf}
+use Rattle.model.specs.Claims.{Lent, inLog, kindGiven, infoBack, headerObjectsIn, Accepted, Back, SameBytes}
+use Rattle.model.proofs.Slots.{length-items}
+use Rattle.claims.proofs.ReadBack.{update-mark, left-bytes, items-left, reads-back}
+
+-- ---- what makes a slot
+
+same-count : (e e′ : Entry) → itemBytes e ≡ itemBytes e′ → itemCount e ≡ itemCount e′
+same-count e e′ i = omega (arith, length-items e, length-items e′, ap length i)
+
+same-slot : (log : Log) (p : ℕ) (e e′ : Entry) → markOf e ≡ markOf e′ → numberOf log p e ≡ numberOf log p e′ → headerObjects log p e ≡ headerObjects log p e′
+    → itemBytes e ≡ itemBytes e′ → slotOf log p e ≡ slotOf log p e′
+unfolding slotOf
+same-slot log p e e′ m n h i = rw (m, n, h, same-count e e′ i, i)
+
+-- ---- the kind tells the mark
+
+abbrev markOfKind : ℕ → ℕ
+markOfKind k = cond (eqb k 1) markUpdate (cond (eqb k 2) markCommit (cond (eqb k 3) markDecision markCheckpoint))
+
+kind-mark : (q : Request) → markOf (entryOf q) ≡ markOfKind (kindGiven q)
+unfolding entryOf
+kind-mark (update n items) = update-mark n (writesGiven items)
+kind-mark (commits n items) = refl
+kind-mark (decides o v) = refl
+kind-mark (saves r table o) = refl
+
+-- ---- what the entry call told
+
+abbrev told : Info → Answer Info → Info
+told i (done j) = j
+told i (refused r) = i
+
+module _ (sh : Shape) (shape : okShape sh ≡ true) (l : Lent) (q : Request) (taken : Accepted sh l q) (i : Info) (e : infoBack sh l q ≡ done i) where
+  back : Back sh l q
+  back = reads-back sh shape l q taken
+
+  same-info : i ≡ back .info
+  same-info = ap (told i) (sym e ∙ back .reads)
+
+  mark-told : markOf (entryOf q) ≡ markOfKind (i .kind)
+  mark-told = kind-mark q ∙ ap markOfKind (sym (back .kind) ∙ ap (λ j. j .kind) (sym same-info))
+
+  number-told : numberOf (inLog l) (l .tail) (entryOf q) ≡ i .number
+  number-told = sym (back .number) ∙ ap (λ j. j .number) (sym same-info)
+
+  objects-told : headerObjects (inLog l) (l .tail) (entryOf q) ≡ headerObjectsIn i
+  objects-told = sym (back .objects) ∙ ap headerObjectsIn (sym same-info)
+
+pub same-bytes : (sh : Shape) → okShape sh ≡ true → SameBytes sh
+same-bytes sh shape l q q′ i i′ taken taken′ e e′ kind number objects items =
+    left-bytes sh shape l q taken
+    ∙ ap (splice (l .bytes) (256 * l .tail))
+    (same-slot (inLog l) (l .tail) (entryOf q) (entryOf q′)
+    (mark-told sh shape l q taken i e ∙ ap markOfKind kind ∙ sym (mark-told sh shape l q′ taken′ i′ e′))
+    (number-told sh shape l q taken i e ∙ number ∙ sym (number-told sh shape l q′ taken′ i′ e′))
+    (objects-told sh shape l q taken i e ∙ objects ∙ sym (objects-told sh shape l q′ taken′ i′ e′))
+    (sym (items-left sh shape l q taken) ∙ items ∙ items-left sh shape l q′ taken′))
+    ∙ sym (left-bytes sh shape l q′ taken′)
