@@ -12,8 +12,8 @@ use Rattle.model.specs.Rules.{lowestBad}
 use Rattle.model.specs.Answers.{Answer, done, refused}
 use Rattle.model.specs.Append.{Request, append}
 use Rattle.model.specs.Claims.{Lent, inLog, tailAfter, appendTo, after, grown, empty, KeepsGood}
-use Rattle.model.proofs.Refusals.{below-good}
-use Rattle.model.proofs.Appends.{accepted, refused-same}
+use Rattle.laws.proofs.Refusals.{below-good}
+use Rattle.laws.proofs.Appends.{accepted, refused-same}
 
 module _ (sh : Shape) (shape : okShape sh ≡ true) where
   -- one append

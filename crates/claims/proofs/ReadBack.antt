@@ -24,10 +24,10 @@ use Rattle.model.specs.Answers.{Refusal, done, refuse, answer, frameAndEntries}
 use Rattle.model.specs.Reading.{Header, headerAt, kindIn, infoIn, entryRefusal, entryCall, stretch, orEmpty, itemList}
 use Rattle.model.specs.Append.{Request, update, commits, decides, saves, itemsGiven, writesGiven, entryOf, notWhole, ownTests, appendRefusal, appendGiven, append}
 use Rattle.model.specs.Claims.{Lent, inLog, tailAfter, isRefused, appendTo, after, Bytes, givenItems, kindGiven, infoBack, itemsBack, headerObjectsIn, Accepted, Back, ReadsBack}
-use Rattle.model.proofs.Items.{cell-small}
-use Rattle.model.proofs.Slots.{Kept, length-header, header-object, headers-few, number-fits, items-few, object-small, slot-mark, slot-headers, slot-count, slot-number, slot-header, slot-items}
-use Rattle.model.proofs.Refusals.{AllPass, all-pass, refuse-none, good-below}
-use Rattle.model.proofs.Appends.{Accepted as Exit, accepted, good-obeys}
+use Rattle.laws.proofs.Items.{cell-small}
+use Rattle.laws.proofs.Slots.{Kept, length-header, header-object, headers-few, number-fits, items-few, object-small, slot-mark, slot-headers, slot-count, slot-number, slot-header, slot-items}
+use Rattle.laws.proofs.Refusals.{AllPass, all-pass, refuse-none, good-below}
+use Rattle.laws.proofs.Appends.{Accepted as Exit, accepted, good-obeys}
 
 -- ---- header objects have 31 bits
 
