@@ -1,0 +1,4 @@
+pub mod Counts
+pub mod Cells
+pub mod Runs
+pub mod Steps
