@@ -106,9 +106,9 @@ value-fits : (b : Bool) (x : ℕ) → fits 4 x ≡ true → fits 4 (valueField (
 value-fits true x e = e
 value-fits false x e = refl
 
-present-fits : (b : Bool) (x : ℕ) → fits 4 (presentField (cond b (some x) none)) ≡ true
-present-fits true x = refl
-present-fits false x = refl
+pub present-fits : (x : Option ℕ) → fits 4 (presentField x) ≡ true
+present-fits none = refl
+present-fits (some x) = refl
 
 -- ---- the invariant
 
@@ -155,7 +155,7 @@ module _ (sh : Shape) (shape : okShape sh ≡ true) (set : List ℕ) where
         let c : fits 4 w.key ≡ true = search ands in
         let d : fits 4 w.value ≡ true = search ands in
         both (both m a)
-        (both (both (both (both b c) (value-fits (eqb w.operation 1) (w .value) d)) (present-fits (eqb w.operation 1) (w .value))) (lt-ltb v (256 ^ 8) small))
+        (both (both (both (both b c) (value-fits (eqb w.operation 1) (w .value) d)) (present-fits (contentOf w))) (lt-ltb v (256 ^ 8) small))
 
     one-write : (w : Write) (cs : List Cell) (cells : Holds) → okWrite sh w ≡ true → Shown sh set cs cells
         → Shown sh set (cond (mem w.object set) (store cs w.object w.key (record { version = v; content = contentOf w })) cs) (written v w cells)

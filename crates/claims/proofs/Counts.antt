@@ -32,7 +32,7 @@ same-eq o k o′ k′ p q = both (eq-eqb o o′ p) (eq-eqb k k′ q)
 pub other-object : (o k o′ k′ : ℕ) → (o ≡ o′ → ⊥) → same o k o′ k′ ≡ false
 other-object o k o′ k′ d = rw (ne-eqb o o′ d)
 
-other-key : (o k o′ k′ : ℕ) → (k ≡ k′ → ⊥) → same o k o′ k′ ≡ false
+pub other-key : (o k o′ k′ : ℕ) → (k ≡ k′ → ⊥) → same o k o′ k′ ≡ false
 other-key o k o′ k′ d = go (eqb o o′)
   where
     go : (x : Bool) → (x && eqb k k′) ≡ false

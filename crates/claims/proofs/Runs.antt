@@ -34,6 +34,10 @@ pub run : Log → ℕ → Run
 run log zero = start
 run log (suc p) = runStep (p + 1) (run log p) (effect (log .entry p))
 
+pub run-start : (log : Log) → run log 0 ≡ start
+unfolding run
+run-start log = refl
+
 pub count-run : (log : Log) (p : ℕ) → run log p .count ≡ p
 unfolding run
 count-run log zero = refl

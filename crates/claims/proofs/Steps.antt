@@ -19,8 +19,11 @@ use Rattle.model.specs.Table.{Cell, Holds, lookup, apply, versionIn}
 use Rattle.model.specs.Play.{Played, going, waits, lacks, commitsOver, alone, saysCommit, outcome, make, finish, act, step, andThen, play}
 use Rattle.model.specs.Run.{hasVersion, current, madeAll}
 use Rattle.model.specs.Claims.{cellsWritten}
-use Rattle.claims.proofs.Cells.{Shown, how-many, all-writes}
-use Rattle.claims.proofs.Runs.{cellsAfter, run, aside-run, cells-run, commitsAt}
+use Rattle.claims.proofs.Cells.{Shown, nothing-shown, how-many, all-writes}
+use Rattle.claims.proofs.Runs.{cellsAfter, run, run-start, aside-run, cells-run, commitsAt}
+
+pub start-shown : (sh : Shape) (log : Log) (set : List ℕ) → Shown sh set [] (run log 0 .cells)
+start-shown sh log set = rw (run-start log) (nothing-shown sh set)
 
 -- ---- entries of no hosted object
 
@@ -66,7 +69,7 @@ version-same : (v : ℕ) (x : Option Held) → eqb (versionIn x) v ≡ hasVersio
 version-same v none = turned 0 v
 version-same v (some h) = turned (h .version) v
 
-reads-same : (sh : Shape) (set : List ℕ) (rs : List Read) (cs : List Cell) (cells : Holds) → Shown sh set cs cells
+pub reads-same : (sh : Shape) (set : List ℕ) (rs : List Read) (cs : List Cell) (cells : Holds) → Shown sh set cs cells
     → within set (readObjects (record { reads = rs })) ≡ true → commitsOver (lookup cs) (record { reads = rs }) ≡ current cells rs
 unfolding commitsOver
 reads-same sh set [] cs cells s h = refl
