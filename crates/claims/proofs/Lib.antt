@@ -5,3 +5,4 @@ pub mod Steps
 pub mod Waits
 pub mod Audits
 pub mod Openings
+pub mod Histories
