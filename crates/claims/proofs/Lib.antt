@@ -6,3 +6,4 @@ pub mod Waits
 pub mod Audits
 pub mod Openings
 pub mod Histories
+pub mod Replicas

@@ -65,7 +65,7 @@ turned a b = go (eqb a b) refl
     go true e = sym (eq-eqb b a (sym (eqb-true a b e)))
     go false e = sym (ne-eqb b a (λ q. eqb-false a b e (sym q)))
 
-version-same : (v : ℕ) (x : Option Held) → eqb (versionIn x) v ≡ hasVersion v x
+pub version-same : (v : ℕ) (x : Option Held) → eqb (versionIn x) v ≡ hasVersion v x
 version-same v none = turned 0 v
 version-same v (some h) = turned (h .version) v
 

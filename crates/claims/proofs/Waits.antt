@@ -19,7 +19,7 @@ use Rattle.model.specs.Answers.{Refusal, Answer, done, refused}
 use Rattle.model.specs.Replica.{plainly, leftBy}
 use Rattle.model.specs.Claims.{blocked, Waiting, isRefused}
 
-abbrev refusalNumber : Answer (Unit {0}) → ℕ
+abbrev pub refusalNumber : Answer (Unit {0}) → ℕ
 refusalNumber (done a) = 0
 refusalNumber (refused r) = r .number
 

@@ -1,0 +1,130 @@
+-- A replica along its plays: the cells that its table's bytes are read as are shown as the run has them at its position, and
+-- they have room. Stored cells that fit are read back as they were, so openings and plays keep this.
+use Prim.Native.Nat.{ℕ, zero, suc, _+_, _-_, _/_, _<_, _≤_, _^_}
+use mathlib.Core.Path.{_≡_, refl, ap, sym, _∙_, subst}
+use mathlib.Core.Bool.{Bool, true, false, cond, not, _&&_, _||_}
+use mathlib.Core.List.{List, [], _∷_, _++_, map}
+use mathlib.Core.Option.{Option, none, some}
+use native.Mathlib.Omega.{arith}
+use native.Mathlib.Numerals.{add-one}
+use borrow.Author.Tests.{ltb-false, leb-false}
+use lib.Dec.{eqb, leb, ltb}
+use lib.ListN.{length}
+use Rattle.lists.specs.Tests.{ors, or-l, or-r, clash}
+use Rattle.lists.specs.Rows.{values}
+use Rattle.model.specs.Objects.{Shape, okShape, hosted, setOf}
+use Rattle.model.specs.Entries.{Saved, Entry, plain, numbered, commit, decision, checkpoint, blank, Log, ifSome, isNone}
+use Rattle.model.specs.Rules.{okEntry, lowestBad}
+use Rattle.model.specs.Table.{Cell, cellsOf, capacity, tableWith}
+use Rattle.model.specs.Play.{Played, going, waits, lacks, cellsIn, play}
+use Rattle.model.specs.Answers.{Refusal, Answer, done, refused, refuse, refuseAt, answer, firstOf, badFrame, frameAndEntries}
+use Rattle.model.specs.Append.{Replica, badRecord, badReplica}
+use Rattle.model.specs.Replica.{Left, plainly, leftWith, openFresh, Checkpoint, checkpointIn, openRefusal, openGiven, openAt, badStop, playRefusal, leftBy, playGiven, playFrom, playCall}
+use Rattle.model.specs.Claims.{isRefused, Carried, carried, ifDone, ifOpened, ifFresh, hosts, cellsWritten, Waiting}
+use Rattle.model.proofs.Refusals.{not-none, all-pass, refuse-none}
+use Rattle.model.proofs.Agree.{fewer}
+use Rattle.model.proofs.Tables.{length-cells, cells-back}
+use Rattle.model.proofs.Room.{play-fits, length-with}
+use Rattle.claims.proofs.Cells.{Shown, shown-fits}
+use Rattle.claims.proofs.Runs.{run, run-agree}
+use Rattle.claims.proofs.Steps.{start-shown, trust, Ok, play-ok}
+use Rattle.claims.proofs.Waits.{refusalNumber, play-waits}
+use Rattle.claims.proofs.Audits.{Sound, good-kept, tail-small, placed}
+use Rattle.claims.proofs.Openings.{hosted-one, loaded, checkpoint-shows, checkpoint-object}
+use Rattle.claims.proofs.Histories.{Stood}
+
+-- what holds of a replica along its plays
+pub record Good (sh : Shape) (whole : Log) (r : Carried) : Type 0 where
+  pub inv : Shown sh (hosts sh r) (cellsOf (r .table) (r .replica .count)) (run whole (r .replica .position) .cells)
+  pub below : r .replica .position ≤ whole .tail
+  pub fits : r .replica .count ≤ capacity (r .table)
+
+-- cells stored in a table that has room for them
+left-good : (sh : Shape) (whole : Log) (a : Answer (Unit {0})) (set p : ℕ) (table : List ℕ) (cells : List Cell) → length cells ≤ capacity table
+    → Shown sh (hosted sh set) cells (run whole p .cells) → p ≤ whole .tail → Good sh whole (carried (leftWith a set p table cells))
+left-good sh whole a set p table cells room s l = record {
+  inv = rw (cells-back table cells (shown-fits sh (hosted sh set) cells (s .each))) s;
+  below = l;
+  fits = rw (length-with table cells room) room;
+}
+
+some-same : (x y : Carried) → some x ≡ some y → x ≡ y
+some-same x y e = cc
+
+module _ (sh : Shape) (shape : okShape sh ≡ true) (whole : Log) (room : ℕ) (sound : Sound sh whole room) where
+  -- ---- openings
+
+  pub fresh-good : (set : ℕ) (table : List ℕ) (r : Carried) → ifFresh table (openFresh set) ≡ some r → Good sh whole r
+  unfolding openFresh cellsOf values
+  fresh-good set table r e = go (eqb set 0) e
+    where
+      start : Carried
+      start = record { replica = record { hosting = set; position = 0; count = 0 }; table = table }
+
+      go : (b : Bool) → ifFresh table (answer (refuse 10 b) (start .replica)) ≡ some r → Good sh whole r
+      go true i = not-none r (sym i)
+      go false i = subst (Good sh whole) (some-same start r i) (record { inv = start-shown sh whole (hosted sh set); below = omega arith; fits = omega arith })
+
+  module _ (log : Log) (was : Stood sh whole log) where
+    abbrev openTests : ℕ → List ℕ → Option Checkpoint → List (Option Refusal)
+    openTests o table c = frameAndEntries sh log ++ (refuse 3 (leb (log .tail) o || isNone c) ∷ refuse 13 (ifSome c false (λ c. ltb (capacity table) (length (c .cells)))) ∷ [])
+
+    not-opened : (o : ℕ) (table : List ℕ) (r : Carried) (x : Option Refusal) → ifOpened (openGiven sh o table x none) ≡ some r → Good sh whole r
+    not-opened o table r none i = not-none r (sym i)
+    not-opened o table r (some x) i = not-none r (sym i)
+
+    opened-good : (o : ℕ) (table : List ℕ) (r : Carried) (e : Entry) → log .entry o ≡ e → (x : Option Refusal) → firstOf (openTests o table (checkpointIn e)) ≡ x
+        → ifOpened (openGiven sh o table x (checkpointIn e)) ≡ some r → Good sh whole r
+    opened-good o table r (plain ws) e x t i = not-opened o table r x i
+    opened-good o table r (numbered n ws) e x t i = not-opened o table r x i
+    opened-good o table r (commit n c) e x t i = not-opened o table r x i
+    opened-good o table r (decision q v) e x t i = not-opened o table r x i
+    opened-good o table r blank e x t i = not-opened o table r x i
+    opened-good o table r (checkpoint ob cs) e (some x) t i = not-none r (sym i)
+    opened-good o table r (checkpoint ob cs) e none t i =
+        let tests = all-pass (openTests o table (checkpointIn (checkpoint ob cs))) t in
+        let l : o < log .tail = leb-false (log .tail) o (or-l (leb (log .tail) o) false (refuse-none 3 _ (tests .1 .1 .0))) in
+        let fit : length (loaded ob cs) ≤ capacity table = ltb-false (capacity table) (length (loaded ob cs)) (refuse-none 13 _ (tests .1 .1 .1 .0)) in
+        let l′ : o < whole .tail = omega (arith, was .tails) in
+        let e′ : whole .entry o ≡ checkpoint ob cs = sym (was .agrees o l) ∙ e in
+        let k : okEntry sh whole o (checkpoint ob cs) ≡ true = rw e′ at (good-kept sh whole (sound .good) o l′) in
+        let s : Shown sh (hosted sh (setOf sh ob)) (loaded ob cs) (run whole (o + 1) .cells) =
+        rw (hosted-one sh ob (checkpoint-object sh whole o ob cs k), add-one o) (checkpoint-shows sh shape whole room sound o ob cs l′ e′) in
+        subst (Good sh whole) (some-same _ r i) (left-good sh whole (done tt) (setOf sh ob) (o + 1) table (loaded ob cs) fit s (omega arith))
+
+    pub open-good : (o : ℕ) (table : List ℕ) (r : Carried) → ifOpened (openAt sh log o table) ≡ some r → Good sh whole r
+    unfolding openAt
+    open-good o table r e = opened-good o table r (log .entry o) refl (openRefusal sh log o table) refl e
+
+    -- ---- a play
+
+    module _ (r : Carried) (stop : ℕ) (good : Good sh whole r) where
+      set : List ℕ
+      set = hosts sh r
+
+      played : Played
+      played = playFrom sh log (r .replica) (r .table) stop
+
+      -- the play is not refused for its arguments
+      abbrev Fits : Type 0
+      Fits = (badReplica (log .tail) (r .replica) (r .table) ≡ false) × (badStop (log .tail) (r .replica) stop ≡ false)
+
+      at : Fits → r .replica .position ≤ log .tail
+      at f = ltb-false (log .tail) (r .replica .position) (or-r (badRecord (r .replica) (r .table)) (ltb (log .tail) (r .replica .position)) (f .0))
+
+      to : Fits → stop ≤ log .tail
+      to f = ltb-false (log .tail) stop (or-l (ltb (log .tail) stop) (ltb stop (r .replica .position)) (f .1))
+
+      on : Fits → r .replica .position ≤ stop
+      on f = ltb-false stop (r .replica .position) (or-r (ltb (log .tail) stop) (ltb stop (r .replica .position)) (f .1))
+
+      played-ok : Fits → Ok sh shape log (hosts sh r) (capacity (r .table)) stop (playFrom sh log (r .replica) (r .table) stop)
+      played-ok f =
+          let p : ℕ = r .replica .position in
+          let sum : p + (stop - p) ≡ stop = omega (arith, on f) in
+          let few = tail-small log (was .frame) in
+          let inv : Shown sh (hosts sh r) (cellsOf (r .table) (r .replica .count)) (run log p .cells) =
+          rw (run-agree log whole p (fewer log whole (log .tail) p (at f) (was .agrees))) (good .inv) in
+          rw sum at (play-ok sh shape log (hosts sh r) (capacity (r .table)) p (cellsOf (r .table) (r .replica .count)) inv (stop - p)
+          (omega (arith, to f, on f)) (λ q h. trust log (hosts sh r) q (was .truths))
+          (λ q h. placed sh log (log .tail) (good-kept sh log (was .good)) q (omega (arith, to f, on f))))
