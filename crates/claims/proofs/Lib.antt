@@ -7,3 +7,4 @@ pub mod Audits
 pub mod Openings
 pub mod Histories
 pub mod Replicas
+pub mod Demand3

@@ -40,9 +40,9 @@ pub record Good (sh : Shape) (whole : Log) (r : Carried) : Type 0 where
   pub fits : r .replica .count ≤ capacity (r .table)
 
 -- cells stored in a table that has room for them
-left-good : (sh : Shape) (whole : Log) (a : Answer (Unit {0})) (set p : ℕ) (table : List ℕ) (cells : List Cell) → length cells ≤ capacity table
-    → Shown sh (hosted sh set) cells (run whole p .cells) → p ≤ whole .tail → Good sh whole (carried (leftWith a set p table cells))
-left-good sh whole a set p table cells room s l = record {
+left-good : (sh : Shape) (whole : Log) (set p : ℕ) (table : List ℕ) (cells : List Cell) → length cells ≤ capacity table
+    → Shown sh (hosted sh set) cells (run whole p .cells) → p ≤ whole .tail → Good sh whole (carried (leftWith (done tt) set p table cells))
+left-good sh whole set p table cells room s l = record {
   inv = rw (cells-back table cells (shown-fits sh (hosted sh set) cells (s .each))) s;
   below = l;
   fits = rw (length-with table cells room) room;
@@ -90,7 +90,7 @@ module _ (sh : Shape) (shape : okShape sh ≡ true) (whole : Log) (room : ℕ) (
         let k : okEntry sh whole o (checkpoint ob cs) ≡ true = rw e′ at (good-kept sh whole (sound .good) o l′) in
         let s : Shown sh (hosted sh (setOf sh ob)) (loaded ob cs) (run whole (o + 1) .cells) =
         rw (hosted-one sh ob (checkpoint-object sh whole o ob cs k), add-one o) (checkpoint-shows sh shape whole room sound o ob cs l′ e′) in
-        subst (Good sh whole) (some-same _ r i) (left-good sh whole (done tt) (setOf sh ob) (o + 1) table (loaded ob cs) fit s (omega arith))
+        subst (Good sh whole) (some-same _ r i) (left-good sh whole (setOf sh ob) (o + 1) table (loaded ob cs) fit s (omega arith))
 
     pub open-good : (o : ℕ) (table : List ℕ) (r : Carried) → ifOpened (openAt sh log o table) ≡ some r → Good sh whole r
     unfolding openAt
@@ -99,12 +99,6 @@ module _ (sh : Shape) (shape : okShape sh ≡ true) (whole : Log) (room : ℕ) (
     -- ---- a play
 
     module _ (r : Carried) (stop : ℕ) (good : Good sh whole r) where
-      set : List ℕ
-      set = hosts sh r
-
-      played : Played
-      played = playFrom sh log (r .replica) (r .table) stop
-
       -- the play is not refused for its arguments
       abbrev Fits : Type 0
       Fits = (badReplica (log .tail) (r .replica) (r .table) ≡ false) × (badStop (log .tail) (r .replica) stop ≡ false)
@@ -128,3 +122,57 @@ module _ (sh : Shape) (shape : okShape sh ≡ true) (whole : Log) (room : ℕ) (
           rw sum at (play-ok sh shape log (hosts sh r) (capacity (r .table)) p (cellsOf (r .table) (r .replica .count)) inv (stop - p)
           (omega (arith, to f, on f)) (λ q h. trust log (hosts sh r) q (was .truths))
           (λ q h. placed sh log (log .tail) (good-kept sh log (was .good)) q (omega (arith, to f, on f))))
+
+      run-same : (q : ℕ) → q ≤ log .tail → run log q ≡ run whole q
+      run-same q l = run-agree log whole q (fewer log whole (log .tail) q l (was .agrees))
+
+      -- what a play leaves
+      left-so : Fits → (x : Played) → length (cellsIn x) ≤ capacity (r .table) → Ok sh shape log (hosts sh r) (capacity (r .table)) stop x → Good sh whole (carried (leftBy (r .replica .hosting) stop (r .table) x))
+      left-so f (going u) n i = left-good sh whole (r .replica .hosting) stop (r .table) u n (rw (← run-same stop (to f)) i) (omega (arith, to f, was .tails))
+      left-so f (waits q u) n i =
+          left-good sh whole (r .replica .hosting) q (r .table) u n (rw (← run-same q (omega (arith, to f, i .0))) (i .1)) (omega (arith, to f, was .tails, i .0))
+      left-so f (lacks q u) n i =
+          left-good sh whole (r .replica .hosting) q (r .table) u n (rw (← run-same q (omega (arith, to f, i .0))) (i .1)) (omega (arith, to f, was .tails, i .0))
+
+      pub play-good : Good sh whole (carried (playCall sh log (r .replica) (r .table) stop))
+      unfolding playCall
+      play-good = go (playRefusal sh log (r .replica) (r .table) stop) refl
+        where
+          tests : List (Option Refusal)
+          tests = frameAndEntries sh log ++ (refuse 10 (badReplica (log .tail) (r .replica) (r .table)) ∷ refuse 3 (badStop (log .tail) (r .replica) stop) ∷ [])
+
+          go : (x : Option Refusal) → playRefusal sh log (r .replica) (r .table) stop ≡ x
+              → Good sh whole (carried (playGiven (r .replica) stop (r .table) (playFrom sh log (r .replica) (r .table) stop) x))
+          go (some x) e = good
+          go none e =
+              let pass = all-pass tests e in
+              let f : Fits = (refuse-none 10 _ (pass .1 .1 .0), refuse-none 3 _ (pass .1 .1 .1 .0)) in
+              let n = play-fits log (hosts sh r) (capacity (r .table)) (r .replica .position) (cellsOf (r .table) (r .replica .count)) (stop - r .replica .position)
+              (omega (arith, good .fits, length-cells (r .table) (r .replica .count))) in
+              left-so f (playFrom sh log (r .replica) (r .table) stop) n (played-ok f)
+
+      -- on a good log such a play is not refused
+      not-refused : Fits → playCall sh log (r .replica) (r .table) stop ≡ leftBy (r .replica .hosting) stop (r .table) (playFrom sh log (r .replica) (r .table) stop)
+      unfolding playCall
+      not-refused f = rw (was .frame, was .good, f .0, f .1)
+
+      pub play-waiting : Fits → Waiting log (hosts sh r) (r .replica .position) stop (playCall sh log (r .replica) (r .table) stop)
+      play-waiting f =
+          rw (not-refused f) (play-waits log (hosts sh r) (capacity (r .table)) (r .replica .hosting) (r .replica .position) stop (r .table) (cellsOf (r .table) (r .replica .count)) (on f))
+
+      -- a play that lacks room
+      pub record Lacking (out : Left) : Type 0 where
+        pub next : out .replica .position + 1 ≤ whole .tail
+        pub many : capacity (r .table) < cellsWritten (sh .objects) (hosts sh r) (run whole (out .replica .position + 1) .cells)
+
+      pub play-lacking : Fits → playCall sh log (r .replica) (r .table) stop .answer ≡ plainly 13 → Lacking (playCall sh log (r .replica) (r .table) stop)
+      play-lacking f e = rw (not-refused f) (go (playFrom sh log (r .replica) (r .table) stop) (played-ok f) (rw (not-refused f) at e))
+        where
+          go : (x : Played) → Ok sh shape log (hosts sh r) (capacity (r .table)) stop x → leftBy (r .replica .hosting) stop (r .table) x .answer ≡ plainly 13
+              → Lacking (leftBy (r .replica .hosting) stop (r .table) x)
+          go (going u) i e = clash true refl (ap isRefused (sym e))
+          go (waits q u) i e = absurd (let n : 12 ≡ 13 = ap refusalNumber e in omega arith)
+          go (lacks q u) i e = record {
+            next = omega (arith, i .0, to f, was .tails);
+            many = rw (add-one q, ← run-same (suc q) (omega (arith, i .0, to f))) (i .2);
+          }
