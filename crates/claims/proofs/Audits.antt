@@ -1,23 +1,23 @@
 -- What it says that the audit passes a log: it is good, its decision records say what the run decided, and its checkpoints
 -- what the run's cells hold. The audit hosts everything, so it needs no decision record, and its cells are the run's.
-use Prim.Native.Nat.{ℕ, zero, suc, _+_, _-_, _<_, _≤_, _^_}
-use mathlib.Core.Path.{_≡_, refl, ap, sym, _∙_}
-use mathlib.Core.Bool.{Bool, true, false, cond, not, _&&_, _||_, Bool·beq}
+use Prim.Native.Nat.{ℕ, zero, suc, _+_, _-_, _<_, _≤_}
+use mathlib.Core.Path.{_≡_, refl, ap, _∙_}
+use mathlib.Core.Bool.{Bool, true, false, cond, not}
 use mathlib.Core.List.{List, [], _∷_, _++_}
 use mathlib.Core.Option.{Option, none, some}
 use native.Mathlib.Omega.{arith}
 use native.Mathlib.Nat.{add-suc, add-zero}
 use borrow.Author.Tests.{ltb-true, ltb-false, not-false}
-use lib.Dec.{eqb, leb, ltb}
+use lib.Dec.{eqb, ltb}
 use Rattle.lists.specs.Tests.{and-l, and-r, ands, ors, both, beq-true, clash}
-use Rattle.lists.specs.Sets.{all, mem, within}
+use Rattle.lists.specs.Sets.{all, within}
 use Rattle.model.specs.Objects.{Shape, ids, isCell, okShape, everything}
-use Rattle.model.specs.Entries.{Write, Read, Claim, Saved, Entry, plain, numbered, commit, decision, checkpoint, blank, Effect, writes, aside, tries, inert, effect, Log, Commit, commitIn, commitAt, ifSome, readObjects, asideUnder, writesOf}
+use Rattle.model.specs.Entries.{Write, Read, Claim, Entry, plain, numbered, commit, decision, checkpoint, blank, Effect, writes, aside, tries, inert, effect, Log, commitIn, ifSome, readObjects, asideUnder, writesOf}
 use Rattle.model.specs.Rules.{okWrite, okWrites, okRead, okReads, okEntry, lowestBad}
-use Rattle.model.specs.Table.{Cell, lookup, savedOf, capacity}
+use Rattle.model.specs.Table.{Cell, lookup, capacity}
 use Rattle.model.specs.Play.{Played, going, waits, lacks, cellsIn, alone, commitsOver, step, andThen, play}
-use Rattle.model.specs.Answers.{Refusal, done, refused, refuseAt, answer, firstOf, slots, badFrame, frameAndEntries}
-use Rattle.model.specs.Replica.{auditPlay, commitsThere, asPlayed, lowestFalse, auditLeft, auditGiven, audit, unopened, leftWith}
+use Rattle.model.specs.Answers.{Refusal, done, answer, firstOf, slots, badFrame, frameAndEntries}
+use Rattle.model.specs.Replica.{auditPlay, commitsThere, asPlayed, lowestFalse, auditGiven, audit}
 use Rattle.model.specs.Run.{current}
 use Rattle.model.specs.Claims.{isRefused}
 use Rattle.model.proofs.Refusals.{all-pass, refuse-none, refuseAt-none, lowest-none, good-below}
@@ -26,7 +26,7 @@ use Rattle.model.proofs.Appends.{good-obeys, frame-few}
 use Rattle.claims.proofs.Counts.{cell-object}
 use Rattle.claims.proofs.Cells.{Shown}
 use Rattle.claims.proofs.Runs.{run, commitsAt}
-use Rattle.claims.proofs.Steps.{start-shown, reads-same, TrueBelow, Trust, Placed, Inv, Ok, play-ok}
+use Rattle.claims.proofs.Steps.{start-shown, reads-same, TrueBelow, Trust, Placed, Ok, play-ok}
 
 -- ---- what a pass says
 
@@ -73,6 +73,13 @@ all-append : {A : Type 0} (f : A → Bool) (xs ys : List A) → all f xs ≡ tru
 all-append f [] ys p q = q
 all-append f (x ∷ xs) ys p q = both (and-l (f x) (all f xs) p) (all-append f xs ys (and-r (f x) (all f xs) p) q)
 
+-- every object read is in the directory
+reads-within : (sh : Shape) (p : ℕ) (rs : List Read) → all (okRead sh p) rs ≡ true → within (ids sh) (readObjects (record { reads = rs })) ≡ true
+unfolding okRead isCell
+reads-within sh p [] h = refl
+reads-within sh p (r ∷ rs) h =
+    both (cell-object (sh .objects) (r .object) (r .key) (search ands)) (reads-within sh p rs (and-r (okRead sh p r) (all (okRead sh p) rs) h))
+
 module _ (sh : Shape) (log : Log) (tail : ℕ) (kept : Kept sh log tail) where
   -- writes obey the rules, those set aside too
   pub placed : (p : ℕ) → p < tail → Placed sh log p
@@ -107,13 +114,7 @@ module _ (sh : Shape) (log : Log) (tail : ℕ) (kept : Kept sh log tail) where
       set-aside n (suc q) h =
           all-append (okWrite sh) (writesOf log n q) (asideUnder n (effect (log .entry q))) (set-aside n q (omega arith)) (one n q (log .entry q) (kept q (omega arith)))
 
-  -- every object read is in the directory
-  reads-within : (p : ℕ) (rs : List Read) → all (okRead sh p) rs ≡ true → within (ids sh) (readObjects (record { reads = rs })) ≡ true
-  unfolding okRead isCell
-  reads-within p [] h = refl
-  reads-within p (r ∷ rs) h =
-      both (cell-object (sh .objects) (r .object) (r .key) (search ands)) (reads-within p rs (and-r (okRead sh p r) (all (okRead sh p) rs) h))
-
+  -- a commit record's reads are all hosted by the audit
   hosted-reads : (p n : ℕ) (c : Claim) → p < tail → effect (log .entry p) ≡ tries n c → alone (ids sh) c ≡ true
   unfolding okEntry okReads
   hosted-reads p n c l e = go (log .entry p) (kept p l) e
@@ -122,7 +123,7 @@ module _ (sh : Shape) (log : Log) (tail : ℕ) (kept : Kept sh log tail) where
       go (commit m d) k i =
           let r : all (okRead sh p) (d .reads) ≡ true = search ands in
           let s : d ≡ c = cc in
-          rw (← s) (reads-within p (d .reads) r)
+          rw (← s) (reads-within sh p (d .reads) r)
       go (plain us) k i = clash true refl (cc)
       go (numbered m us) k i = clash true refl (cc)
       go (decision o v) k i = clash true refl (cc)

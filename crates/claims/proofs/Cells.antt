@@ -1,18 +1,17 @@
 -- The invariant of a table's cells: they show what the cells of a set's objects hold, each is a cell of the set that fits its
 -- bytes, and none is there twice. Writes keep it, and it tells how many cells there are.
-use Prim.Native.Nat.{ℕ, zero, suc, _+_, _<_, _≤_, _^_}
+use Prim.Native.Nat.{ℕ, _+_, _<_, _^_}
 use mathlib.Core.Path.{_≡_, refl, ap, sym, _∙_}
-use mathlib.Core.Bool.{Bool, true, false, cond, _&&_, _||_}
+use mathlib.Core.Bool.{Bool, true, false, cond, _&&_}
 use mathlib.Core.List.{List, [], _∷_}
 use mathlib.Core.Option.{Option, none, some}
-use native.Mathlib.Omega.{arith}
 use native.Mathlib.Numerals.{add-one}
-use borrow.Author.Tests.{eqb-true, eqb-false, eq-eqb, ne-eqb, ltb-true, lt-ltb}
-use lib.Dec.{eqb, leb, ltb}
+use borrow.Author.Tests.{lt-ltb}
+use lib.Dec.{eqb}
 use lib.ListN.{length}
 use Rattle.lists.specs.Tests.{and-l, and-r, ands, both, clash}
 use Rattle.lists.specs.Sets.{all, mem, ascending, all-weaken}
-use Rattle.model.specs.Objects.{Object, Shape, isCell, okShape}
+use Rattle.model.specs.Objects.{Shape, isCell, okShape}
 use Rattle.model.specs.Entries.{Write, Held, contentOf, isNone}
 use Rattle.model.specs.Slot.{valueField}
 use Rattle.model.specs.Rules.{fits, okWrite}

@@ -1,24 +1,23 @@
 -- Demand 3: after any plays a replica shows what the run had at its position, waits and lacks room exactly where it should, and
 -- a committed read made again finds what was shown with that version, since a version tells what a cell holds.
-use Prim.Native.Nat.{ℕ, _+_, _<_, _≤_}
+use Prim.Native.Nat.{ℕ, _+_, _<_}
 use mathlib.Core.Path.{_≡_, refl, ap, sym, _∙_}
-use mathlib.Core.Bool.{Bool, true, false, not, _&&_, _||_}
+use mathlib.Core.Bool.{Bool, true, false, not, _&&_}
 use mathlib.Core.List.{List, [], _∷_, List·Memᴰ, List·Memᴰ·head, List·Memᴰ·tail}
 use mathlib.Core.Option.{Option, none, some}
 use native.Mathlib.Omega.{arith}
 use borrow.Author.Tests.{eqb-true, le-ltb}
-use lib.Dec.{eqb, ltb}
-use lib.ListN.{length}
+use lib.Dec.{eqb}
 use Rattle.lists.specs.Tests.{and-l, and-r, neither, clash}
 use Rattle.lists.specs.Sets.{mem}
 use Rattle.model.specs.Objects.{Shape, okShape, isCell, hosted}
 use Rattle.model.specs.Entries.{Read, Held, Log}
 use Rattle.model.specs.Slot.{logIn}
 use Rattle.model.specs.Table.{Holds, cellsOf, capacity, lookup, versionIn}
-use Rattle.model.specs.Answers.{Answer, done, refuse, firstOf, answer}
+use Rattle.model.specs.Answers.{done, refuse, firstOf, answer}
 use Rattle.model.specs.Append.{badRecord}
 use Rattle.model.specs.Replica.{plainly, readCell}
-use Rattle.model.specs.Run.{Run, hasVersion, current}
+use Rattle.model.specs.Run.{hasVersion, current}
 use Rattle.model.specs.Claims.{isRefused, inLog, History, wholeLog, stood, ranTo, Passed, Carried, carried, Opening, fresh, atCheckpoint, opened, Play, played, plays, hosts, shown, cellsWritten, Fit, Shows, Demand3}
 use Rattle.model.proofs.Tables.{length-cells}
 use Rattle.claims.proofs.Cells.{how-many}
@@ -27,7 +26,7 @@ use Rattle.claims.proofs.Steps.{version-same}
 use Rattle.claims.proofs.Audits.{Sound, audit-passed}
 use Rattle.claims.proofs.Openings.{hosted-none}
 use Rattle.claims.proofs.Histories.{run-at, Stood, stood-so}
-use Rattle.claims.proofs.Replicas.{Good, fresh-good, open-good, play-good, play-waiting, Lacking, play-lacking}
+use Rattle.claims.proofs.Replicas.{Good, fresh-good, open-good, play-good, play-waiting, play-lacking}
 
 -- ---- reads that are current
 
@@ -77,14 +76,14 @@ module _ (sh : Shape) (shape : okShape sh ≡ true) (h : History) (room : ℕ) (
   was n = stood-so sh shape h room n sound
 
   opened-good : (o : Opening) (r : Carried) → opened sh h o ≡ some r → Good sh (whole sh h) r
-  opened-good (fresh set table) r e = fresh-good sh shape (whole sh h) room sound set table r e
+  opened-good (fresh set table) r e = fresh-good sh (whole sh h) set table r e
   opened-good (atCheckpoint n o table) r e = open-good sh shape (whole sh h) room sound (inLog (stood sh h n)) (was n) o table r e
 
   plays-good : (r : Carried) (ps : List Play) → Good sh (whole sh h) r → Good sh (whole sh h) (plays sh h r ps)
   unfolding plays
   plays-good r [] g = g
   plays-good r (p ∷ ps) g =
-      plays-good (carried (played sh h r p)) ps (play-good sh shape (whole sh h) room sound (at sh h p) (was (p .stoodAfter)) r (p .stop) g)
+      plays-good (carried (played sh h r p)) ps (play-good sh shape (whole sh h) (at sh h p) (was (p .stoodAfter)) r (p .stop) g)
 
   module _ (r : Carried) (g : Good sh (whole sh h) r) where
     position : ranTo sh h (r .replica .position) ≡ run (whole sh h) (r .replica .position)
@@ -95,7 +94,7 @@ module _ (sh : Shape) (shape : okShape sh ≡ true) (h : History) (room : ℕ) (
         → capacity (r .table) < cellsWritten (sh .objects) (hosts sh r) (ranTo sh h (played sh h r p .replica .position + 1) .cells)
     unfolding logIn
     lacking p f e =
-        let l = play-lacking sh shape (whole sh h) room sound (at sh h p) (was (p .stoodAfter)) r (p .stop) g f e in
+        let l = play-lacking sh shape (whole sh h) (at sh h p) (was (p .stoodAfter)) r (p .stop) g f e in
         rw (run-at sh shape h (played sh h r p .replica .position + 1) (l .next)) (l .many)
 
     reread : (p : ℕ) (rs : List Read) (x : Read) (held : Option Held) → p < wholeLog sh h .tail → current (ranTo sh h p .cells) rs ≡ true
@@ -112,12 +111,18 @@ module _ (sh : Shape) (shape : okShape sh ≡ true) (h : History) (room : ℕ) (
       cells = λ o k m c. read-done sh (whole sh h) r g o k m c ∙ ap (λ s. done (s .cells o k)) (sym position);
       count = sym (length-cells (r .table) (r .replica .count)) ∙ how-many sh shape (hosts sh r) (cellsOf (r .table) (r .replica .count)) (run (whole sh h) (r .replica .position) .cells) (g .inv)
           ∙ ap (λ s. cellsWritten (sh .objects) (hosts sh r) (s .cells)) (sym position);
-      waits = λ p f. play-waiting sh shape (whole sh h) room sound (at sh h p) (was (p .stoodAfter)) r (p .stop) g f;
+      waits = λ p f. play-waiting sh shape (whole sh h) (at sh h p) (was (p .stoodAfter)) r (p .stop) g f;
       lacks = lacking;
       rereads = λ p n c x held l i cur m e v. reread p (c .reads) x held l cur m e v;
     }
 
+-- what holds of a replica after its plays
+pub replica-good : (sh : Shape) → okShape sh ≡ true → (h : History) (scratch : List ℕ) → Passed sh h scratch
+    → (opening : Opening) (r : Carried) → opened sh h opening ≡ some r → (ps : List Play) → Good sh (inLog (wholeLog sh h)) (plays sh h r ps)
+replica-good sh shape h scratch passed o r e ps =
+    let sound = audit-passed sh (whole sh h) scratch passed in
+    plays-good sh shape h (capacity scratch) sound r ps (opened-good sh shape h (capacity scratch) sound o r e)
+
 pub demand3 : (sh : Shape) → okShape sh ≡ true → Demand3 sh
 demand3 sh shape h scratch passed o r e ps =
-    let sound = audit-passed sh (whole sh h) scratch passed in
-    shows sh shape h (capacity scratch) sound (plays sh h r ps) (plays-good sh shape h (capacity scratch) sound r ps (opened-good sh shape h (capacity scratch) sound o r e))
+    shows sh shape h (capacity scratch) (audit-passed sh (whole sh h) scratch passed) (plays sh h r ps) (replica-good sh shape h scratch passed o r e ps)

@@ -1,6 +1,6 @@
 -- Histories: a log only grows, so as it stood it agrees with the whole log below its tail and is as good; and the run fed by
 -- the history's appends is the run over the entries of its log. Each by induction over the appends, refused or accepted.
-use Prim.Native.Nat.{ℕ, zero, suc, _+_, _%_, _/_, _<_, _≤_}
+use Prim.Native.Nat.{ℕ, zero, suc, _+_, _%_, _<_, _≤_}
 use mathlib.Core.Path.{_≡_, refl, ap, sym, _∙_, subst}
 use mathlib.Core.Bool.{Bool, true, false, cond, not, _||_}
 use mathlib.Core.List.{List, [], _∷_}
@@ -12,17 +12,17 @@ use lib.Dec.{eqb, ltb}
 use lib.ListN.{length, take}
 use Rattle.lists.specs.Tests.{ands, or-l, or-r, neither}
 use Rattle.model.specs.Objects.{Shape, okShape}
-use Rattle.model.specs.Entries.{decision, Log, ifSome, commitAt}
+use Rattle.model.specs.Entries.{decision, Log}
 use Rattle.model.specs.Slot.{logIn}
 use Rattle.model.specs.Rules.{okEntry, lowestBad}
-use Rattle.model.specs.Answers.{Refusal, Answer, done, refused, slots, badFrame}
+use Rattle.model.specs.Answers.{Answer, done, refused, slots, badFrame}
 use Rattle.model.specs.Append.{Request, entryOf}
-use Rattle.model.specs.Run.{Fed, start, accept, runAt, current}
+use Rattle.model.specs.Run.{Fed, start, accept, runAt}
 use Rattle.model.specs.Claims.{Lent, inLog, tailAfter, isRefused, appendTo, after, grown, feed, empty, History, wholeLog, stood, ranTo}
 use Rattle.model.proofs.Agree.{Agree, fewer}
 use Rattle.model.proofs.Refusals.{below-good}
 use Rattle.model.proofs.Appends.{accepted, refused-same}
-use Rattle.claims.proofs.Runs.{run, run-start, count-run, run-agree, run-next, commitsAt}
+use Rattle.claims.proofs.Runs.{run, run-start, count-run, run-agree, run-next}
 use Rattle.claims.proofs.Steps.{TrueBelow}
 use Rattle.claims.proofs.Audits.{Sound, good-kept, decisions-true}
 

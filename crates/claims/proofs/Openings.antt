@@ -1,21 +1,20 @@
 -- A checkpoint of a log that the audit passes shows what the run's cells of its object hold: its cells are the played ones put
 -- in key order, of which the first with a key counts, and the rules keep them ascending, so that none is there twice.
-use Prim.Native.Nat.{ℕ, zero, suc, _+_, _*_, _/_, _%_, _<_, _≤_, _^_}
+use Prim.Native.Nat.{ℕ, suc, _+_, _*_, _/_, _%_, _<_, _≤_, _^_}
 use mathlib.Core.Path.{_≡_, refl, ap, ap₂, sym, _∙_}
 use mathlib.Core.Bool.{Bool, true, false, cond, _&&_, _||_}
 use mathlib.Core.List.{List, [], _∷_, map}
 use mathlib.Core.Option.{Option, none, some}
 use native.Mathlib.Omega.{arith}
-use native.Mathlib.Numerals.{add-one}
-use borrow.Author.Tests.{eqb-true, eqb-false, eq-eqb, ne-eqb, ltb-true, leb-true, lt-ltb}
-use lib.Dec.{eqb, leb, ltb}
-use Rattle.lists.specs.Tests.{and-l, and-r, ands, both, or-false, clash}
-use Rattle.lists.specs.Sets.{all, any, mem, ascending, leads, first-leads, rest-ascends}
+use borrow.Author.Tests.{eqb-true, eqb-false, eq-eqb, ltb-true, leb-true, lt-ltb}
+use lib.Dec.{eqb, ltb}
+use Rattle.lists.specs.Tests.{and-r, ands, both, or-false, clash}
+use Rattle.lists.specs.Sets.{all, mem, ascending, first-leads, rest-ascends}
 use Rattle.model.specs.Objects.{Object, Shape, ids, isObject, isCell, okShape, hostedBy, hosted, bitOf, setOf}
-use Rattle.model.specs.Entries.{Held, Saved, Entry, checkpoint, effect, inert, Log, isNone}
+use Rattle.model.specs.Entries.{Held, Saved, checkpoint, effect, Log, isNone}
 use Rattle.model.specs.Slot.{valueField}
 use Rattle.model.specs.Rules.{fits, okSaved, savedBefore, okEntry}
-use Rattle.model.specs.Table.{Cell, Holds, isOf, heldBy, lookup, presentField, cellOf, insertSaved, savedOf}
+use Rattle.model.specs.Table.{Cell, heldBy, lookup, cellOf, insertSaved, savedOf}
 use Rattle.model.specs.Play.{cellsIn}
 use Rattle.model.specs.Replica.{sameContent, sameSaved, auditPlay, asPlayed}
 use Rattle.model.proofs.Items.{fitsCell, cell-small}

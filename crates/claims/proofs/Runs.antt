@@ -1,14 +1,14 @@
 -- The run over the entries of a log, as it is fed their requests: its count is the offset, the writes set aside are those of
 -- the scan, it depends on the entries below alone, and a cell holds now what it held when the count was its version.
-use Prim.Native.Nat.{ℕ, zero, suc, _+_, _<_, _≤_}
+use Prim.Native.Nat.{ℕ, zero, suc, _+_}
 use mathlib.Core.Path.{_≡_, refl, ap, sym, _∙_}
 use mathlib.Core.Bool.{Bool, true, false, cond, _&&_}
 use mathlib.Core.List.{List, [], _∷_, _++_, append-nil}
-use mathlib.Core.Option.{Option, none, some}
+use mathlib.Core.Option.{Option, some}
 use native.Mathlib.Omega.{arith}
 use native.Mathlib.Numerals.{add-one}
 use lib.Dec.{eqb}
-use Rattle.model.specs.Entries.{Write, Held, Claim, plain, numbered, Effect, writes, aside, tries, inert, effect, Log, asideUnder, writesOf, commitAt, ifSome}
+use Rattle.model.specs.Entries.{Write, Held, plain, numbered, Effect, writes, aside, tries, inert, effect, Log, asideUnder, writesOf, commitAt, ifSome}
 use Rattle.model.specs.Table.{Holds, versionIn}
 use Rattle.model.specs.Append.{Request, update, commits, decides, saves, writesGiven, entryOf}
 use Rattle.model.specs.Run.{Run, start, current, written, madeAll, setAside, accept}

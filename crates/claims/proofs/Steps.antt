@@ -1,9 +1,9 @@
 -- A play keeps its cells as the run has them: each step does to the cells of the set what the run does to all cells, where what
 -- a decision record says of a commit record is the run's outcome. By induction over the entries played.
-use Prim.Native.Nat.{ℕ, zero, suc, _+_, _<_, _≤_, _^_}
+use Prim.Native.Nat.{ℕ, zero, suc, _+_, _<_, _^_}
 use mathlib.Core.Path.{_≡_, refl, ap, ap₂, sym, _∙_}
-use mathlib.Core.Bool.{Bool, true, false, cond, not, _&&_, _||_}
-use mathlib.Core.List.{List, [], _∷_, _++_}
+use mathlib.Core.Bool.{Bool, true, false, cond, _&&_, _||_}
+use mathlib.Core.List.{List, [], _∷_}
 use mathlib.Core.Option.{Option, none, some}
 use native.Mathlib.Omega.{arith}
 use native.Mathlib.Nat.{add-suc, add-zero}
@@ -11,7 +11,7 @@ use borrow.Author.Tests.{eqb-true, eqb-false, eq-eqb, ne-eqb, leb-false}
 use lib.Dec.{eqb, leb, ltb}
 use lib.ListN.{length}
 use Rattle.lists.specs.Tests.{and-l, and-r, or-l, or-r, clash}
-use Rattle.lists.specs.Sets.{all, any, mem, meets, within, insertOnce, ascendingSet}
+use Rattle.lists.specs.Sets.{all, mem, meets, within, insertOnce, ascendingSet}
 use Rattle.model.specs.Objects.{Shape, okShape}
 use Rattle.model.specs.Entries.{Write, Read, Held, Claim, Entry, plain, numbered, commit, decision, checkpoint, blank, Effect, writes, aside, tries, inert, effect, Log, writtenObjects, readObjects, writesOf, decides, decided, headerObjects}
 use Rattle.model.specs.Rules.{okWrite}
@@ -58,16 +58,16 @@ none-applied set v (w ∷ ws) cs h =
 
 -- ---- the player's test of reads is the run's
 
-turned : (a b : ℕ) → eqb a b ≡ eqb b a
-turned a b = go (eqb a b) refl
+eqb-turned : (a b : ℕ) → eqb a b ≡ eqb b a
+eqb-turned a b = go (eqb a b) refl
   where
     go : (x : Bool) → eqb a b ≡ x → x ≡ eqb b a
     go true e = sym (eq-eqb b a (sym (eqb-true a b e)))
     go false e = sym (ne-eqb b a (λ q. eqb-false a b e (sym q)))
 
 pub version-same : (v : ℕ) (x : Option Held) → eqb (versionIn x) v ≡ hasVersion v x
-version-same v none = turned 0 v
-version-same v (some h) = turned (h .version) v
+version-same v none = eqb-turned 0 v
+version-same v (some h) = eqb-turned (h .version) v
 
 pub reads-same : (sh : Shape) (set : List ℕ) (rs : List Read) (cs : List Cell) (cells : Holds) → Shown sh set cs cells
     → within set (readObjects (record { reads = rs })) ≡ true → commitsOver (lookup cs) (record { reads = rs }) ≡ current cells rs
@@ -200,7 +200,7 @@ module _ (sh : Shape) (shape : okShape sh ≡ true) (log : Log) (set : List ℕ)
     unfolding step
     step-ok = entry-ok (log .entry p) refl
 
-  pub play-ok : (p : ℕ) (cs : List Cell) → Inv p cs → (n : ℕ) → p + n < 2 ^ 63 → ((q : ℕ) → q < p + n → Trust log set q) → ((q : ℕ) → q < p + n → Placed sh log q)
+  pub play-ok : (p : ℕ) (cs : List Cell) → Inv p cs → (n : ℕ) → p + n < 2 ^ 64 → ((q : ℕ) → q < p + n → Trust log set q) → ((q : ℕ) → q < p + n → Placed sh log q)
       → Ok (p + n) (play log set room p cs n)
   unfolding play
   play-ok p cs i zero low tr pl = rw add-zero i
