@@ -1,4 +1,14 @@
 pub mod Aborts
-pub mod KeepsGood
 pub mod ReadBack
 pub mod SameBytes
+pub mod KeepsGood
+pub mod Counts
+pub mod Cells
+pub mod Runs
+pub mod Steps
+pub mod Waits
+pub mod Audits
+pub mod Openings
+pub mod Histories
+pub mod Replicas
+pub mod Demand3

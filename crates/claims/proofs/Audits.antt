@@ -1,0 +1,191 @@
+-- What it says that the audit passes a log: it is good, its decision records say what the run decided, and its checkpoints
+-- what the run's cells hold. The audit hosts everything, so it needs no decision record, and its cells are the run's.
+use Prim.Native.Nat.{ℕ, zero, suc, _+_, _-_, _<_, _≤_}
+use mathlib.Core.Path.{_≡_, refl, ap, _∙_}
+use mathlib.Core.Bool.{Bool, true, false, cond, not}
+use mathlib.Core.List.{List, [], _∷_, _++_}
+use mathlib.Core.Option.{Option, none, some}
+use native.Mathlib.Omega.{arith}
+use native.Mathlib.Nat.{add-suc, add-zero}
+use borrow.Author.Tests.{ltb-true, ltb-false, not-false}
+use lib.Dec.{eqb, ltb}
+use Rattle.lists.specs.Tests.{and-l, and-r, ands, ors, both, beq-true, clash}
+use Rattle.lists.specs.Sets.{all, within}
+use Rattle.model.specs.Objects.{Shape, ids, isCell, okShape, everything}
+use Rattle.model.specs.Entries.{Write, Read, Claim, Entry, plain, numbered, commit, decision, checkpoint, blank, Effect, writes, aside, tries, inert, effect, Log, commitIn, ifSome, readObjects, asideUnder, writesOf}
+use Rattle.model.specs.Rules.{okWrite, okWrites, okRead, okReads, okEntry, lowestBad}
+use Rattle.model.specs.Table.{Cell, lookup, capacity}
+use Rattle.model.specs.Play.{Played, going, waits, lacks, cellsIn, alone, commitsOver, step, andThen, play}
+use Rattle.model.specs.Answers.{Refusal, done, answer, firstOf, slots, badFrame, frameAndEntries}
+use Rattle.model.specs.Replica.{auditPlay, commitsThere, asPlayed, lowestFalse, auditGiven, audit}
+use Rattle.model.specs.Run.{current}
+use Rattle.model.specs.Claims.{isRefused}
+use Rattle.laws.proofs.Refusals.{all-pass, refuse-none, refuseAt-none, lowest-none, good-below}
+use Rattle.laws.proofs.Slots.{Kept}
+use Rattle.laws.proofs.Appends.{good-obeys, frame-few}
+use Rattle.claims.proofs.Counts.{cell-object}
+use Rattle.claims.proofs.Cells.{Shown}
+use Rattle.claims.proofs.Runs.{run, commitsAt}
+use Rattle.claims.proofs.Steps.{start-shown, reads-same, TrueBelow, Trust, Placed, Ok, play-ok}
+
+-- ---- what a pass says
+
+abbrev pub isGoing : Played → Bool
+isGoing (going cs) = true
+isGoing (waits q cs) = false
+isGoing (lacks q cs) = false
+
+pub record Sound (sh : Shape) (log : Log) (room : ℕ) : Type 0 where
+  pub frame : badFrame log ≡ false
+  pub good : lowestBad sh log ≡ none
+  pub ended : isGoing (auditPlay sh log room (log .tail)) ≡ true
+  pub told : (d : ℕ) → d < log .tail → asPlayed sh log room d (log .entry d) ≡ true
+
+pub audit-passed : (sh : Shape) (log : Log) (scratch : List ℕ) → audit sh log scratch .answer ≡ done tt → Sound sh log (capacity scratch)
+unfolding audit
+audit-passed sh log scratch h =
+    go (firstOf (frameAndEntries sh log)) (lowestFalse sh log room) (auditPlay sh log room (log .tail)) refl refl refl h
+  where
+    room : ℕ
+    room = capacity scratch
+
+    go : (x : Option Refusal) (f : Option ℕ) (p : Played) → firstOf (frameAndEntries sh log) ≡ x → lowestFalse sh log room ≡ f → auditPlay sh log room (log .tail) ≡ p
+        → auditGiven (everything sh) (log .tail) scratch f p x .answer ≡ done tt → Sound sh log room
+    go (some r) f p i j k e = clash true refl (ap isRefused e)
+    go none f (waits q cs) i j k e = clash true refl (ap isRefused e)
+    go none f (lacks q cs) i j k e = clash true refl (ap isRefused e)
+    go none (some o) (going cs) i j k e = clash true refl (ap isRefused e)
+    go none none (going cs) i j k e =
+        let tests = all-pass (frameAndEntries sh log) i in
+        record {
+          frame = refuse-none 1 (badFrame log) (tests .0);
+          good = refuseAt-none 2 (lowestBad sh log) (tests .1 .0);
+          ended = ap isGoing k;
+          told = λ d l. not-false _ (lowest-none (λ d. not (asPlayed sh log room d (log .entry d))) (log .tail) j d l);
+        }
+
+-- ---- what the rules say of writes and reads
+
+pub good-kept : (sh : Shape) (log : Log) → lowestBad sh log ≡ none → Kept sh log (log .tail)
+good-kept sh log g d l = good-obeys sh log d (good-below sh log g d l)
+
+all-append : {A : Type 0} (f : A → Bool) (xs ys : List A) → all f xs ≡ true → all f ys ≡ true → all f (xs ++ ys) ≡ true
+all-append f [] ys p q = q
+all-append f (x ∷ xs) ys p q = both (and-l (f x) (all f xs) p) (all-append f xs ys (and-r (f x) (all f xs) p) q)
+
+-- every object read is in the directory
+reads-within : (sh : Shape) (p : ℕ) (rs : List Read) → all (okRead sh p) rs ≡ true → within (ids sh) (readObjects (record { reads = rs })) ≡ true
+unfolding okRead isCell
+reads-within sh p [] h = refl
+reads-within sh p (r ∷ rs) h =
+    both (cell-object (sh .objects) (r .object) (r .key) (search ands)) (reads-within sh p rs (and-r (okRead sh p r) (all (okRead sh p) rs) h))
+
+module _ (sh : Shape) (log : Log) (tail : ℕ) (kept : Kept sh log tail) where
+  -- writes obey the rules, those set aside too
+  pub placed : (p : ℕ) → p < tail → Placed sh log p
+  unfolding okEntry okWrites writesOf
+  placed p l = record { now = λ ws e. now ws (log .entry p) (kept p l) e; late = λ n. set-aside n p (omega arith) }
+    where
+      now : (ws : List Write) (x : Entry) → okEntry sh log p x ≡ true → effect x ≡ writes ws → all (okWrite sh) ws ≡ true
+      now ws (plain us) k q =
+          let i : us ≡ ws = cc in
+          let j : all (okWrite sh) us ≡ true = search ands in
+          rw (← i) j
+      now ws (numbered n us) k q = clash true refl (cc)
+      now ws (commit n c) k q = clash true refl (cc)
+      now ws (decision o v) k q = clash true refl (cc)
+      now ws (checkpoint o cs) k q = clash true refl (cc)
+      now ws blank k q = clash true refl (cc)
+
+      one : (n q : ℕ) (e : Entry) → okEntry sh log q e ≡ true → all (okWrite sh) (asideUnder n (effect e)) ≡ true
+      one n q (plain ws) k = refl
+      one n q (numbered m ws) k = pick (eqb m n)
+        where
+          pick : (b : Bool) → all (okWrite sh) (cond b ws []) ≡ true
+          pick true = search ands
+          pick false = refl
+      one n q (commit m c) k = refl
+      one n q (decision o v) k = refl
+      one n q (checkpoint o cs) k = refl
+      one n q blank k = refl
+
+      set-aside : (n q : ℕ) → q ≤ tail → all (okWrite sh) (writesOf log n q) ≡ true
+      set-aside n zero h = refl
+      set-aside n (suc q) h =
+          all-append (okWrite sh) (writesOf log n q) (asideUnder n (effect (log .entry q))) (set-aside n q (omega arith)) (one n q (log .entry q) (kept q (omega arith)))
+
+  -- a commit record's reads are all hosted by the audit
+  hosted-reads : (p n : ℕ) (c : Claim) → p < tail → effect (log .entry p) ≡ tries n c → alone (ids sh) c ≡ true
+  unfolding okEntry okReads
+  hosted-reads p n c l e = go (log .entry p) (kept p l) e
+    where
+      go : (x : Entry) → okEntry sh log p x ≡ true → effect x ≡ tries n c → alone (ids sh) c ≡ true
+      go (commit m d) k i =
+          let r : all (okRead sh p) (d .reads) ≡ true = search ands in
+          let s : d ≡ c = cc in
+          rw (← s) (reads-within sh p (d .reads) r)
+      go (plain us) k i = clash true refl (cc)
+      go (numbered m us) k i = clash true refl (cc)
+      go (decision o v) k i = clash true refl (cc)
+      go (checkpoint o cs) k i = clash true refl (cc)
+      go blank k i = clash true refl (cc)
+
+-- ---- the audit's own play
+
+going-back : (log : Log) (set : List ℕ) (room p : ℕ) (cs : List Cell) (d n : ℕ) → isGoing (play log set room p cs (d + n)) ≡ true → isGoing (play log set room p cs d) ≡ true
+unfolding play
+going-back log set room p cs d zero h = rw add-zero at h
+going-back log set room p cs d (suc n) h = going-back log set room p cs d n (go (play log set room p cs (d + n)) (rw add-suc at h))
+  where
+    go : (x : Played) → isGoing (andThen x (step log set room (p + (d + n)))) ≡ true → isGoing x ≡ true
+    go (going u) i = refl
+    go (waits q u) i = i
+    go (lacks q u) i = i
+
+pub tail-small : (log : Log) → badFrame log ≡ false → log .tail ≤ 131072
+unfolding badFrame
+tail-small log e =
+    let a : ltb (slots log) (log .tail) ≡ false = search ors in
+    omega (arith, frame-few log e, ltb-false (slots log) (log .tail) a)
+
+module _ (sh : Shape) (shape : okShape sh ≡ true) (log : Log) (room : ℕ) (sound : Sound sh log room) where
+  kept : Kept sh log (log .tail)
+  kept = good-kept sh log (sound .good)
+
+  trusted : (q : ℕ) → q < log .tail → Trust log (ids sh) q
+  trusted q l n c e w b h = clash (alone (ids sh) c) (hosted-reads sh log (log .tail) kept q n c l e) w
+
+  goes : (d : ℕ) → d ≤ log .tail → isGoing (auditPlay sh log room d) ≡ true
+  goes d l = let s : d + (log .tail - d) ≡ log .tail = omega arith in going-back log (ids sh) room 0 [] d (log .tail - d) (rw s (sound .ended))
+
+  -- the audit's cells as played to d
+  pub audit-shows : (d : ℕ) → d ≤ log .tail → Shown sh (ids sh) (cellsIn (auditPlay sh log room d)) (run log d .cells)
+  audit-shows d l =
+      let s : 0 + d ≡ d = omega arith in
+      let few = tail-small log (sound .frame) in
+      go (auditPlay sh log room d) (goes d l)
+      (rw s at (play-ok sh shape log (ids sh) room 0 [] (start-shown sh log (ids sh)) d (omega arith) (λ q h. trusted q (omega arith)) (λ q h. placed sh log (log .tail) kept q (omega arith))))
+    where
+      go : (x : Played) → isGoing x ≡ true → Ok sh shape log (ids sh) room d x → Shown sh (ids sh) (cellsIn x) (run log d .cells)
+      go (going u) g i = i
+      go (waits q u) g i = clash false g refl
+      go (lacks q u) g i = clash false g refl
+
+  commits-same : (o : ℕ) → o < log .tail → commitsThere sh log room o ≡ commitsAt log o
+  commits-same o l = go (effect (log .entry o)) refl
+    where
+      go : (e : Effect) → effect (log .entry o) ≡ e
+          → ifSome (commitIn e) false (λ c. commitsOver (lookup (cellsIn (auditPlay sh log room o))) (c .claim)) ≡ ifSome (commitIn e) false (λ c. current (run log o .cells) (c .claim .reads))
+      go (writes ws) e = refl
+      go (aside n ws) e = refl
+      go (tries n c) e = reads-same sh (ids sh) (c .reads) (cellsIn (auditPlay sh log room o)) (run log o .cells) (audit-shows o (omega arith)) (hosted-reads sh log (log .tail) kept o n c l e)
+      go inert e = refl
+
+  pub decisions-true : TrueBelow log (log .tail)
+  unfolding okEntry
+  decisions-true d l o v e =
+      let k : okEntry sh log d (decision o v) ≡ true = rw e at (kept d l) in
+      let lt : ltb o d ≡ true = search ands in
+      let s : o < log .tail = omega (arith, ltb-true o d lt) in
+      let t : asPlayed sh log room d (decision o v) ≡ true = rw e at (sound .told d l) in
+      beq-true (eqb v 1) (commitsThere sh log room o) t ∙ commits-same o s

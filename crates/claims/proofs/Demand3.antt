@@ -1,0 +1,128 @@
+-- Demand 3: after any plays a replica shows what the run had at its position, waits and lacks room exactly where it should, and
+-- a committed read made again finds what was shown with that version, since a version tells what a cell holds.
+use Prim.Native.Nat.{ℕ, _+_, _<_}
+use mathlib.Core.Path.{_≡_, refl, ap, sym, _∙_}
+use mathlib.Core.Bool.{Bool, true, false, not, _&&_}
+use mathlib.Core.List.{List, [], _∷_, List·Memᴰ, List·Memᴰ·head, List·Memᴰ·tail}
+use mathlib.Core.Option.{Option, none, some}
+use native.Mathlib.Omega.{arith}
+use borrow.Author.Tests.{eqb-true, le-ltb}
+use lib.Dec.{eqb}
+use Rattle.lists.specs.Tests.{and-l, and-r, neither, clash}
+use Rattle.lists.specs.Sets.{mem}
+use Rattle.model.specs.Objects.{Shape, okShape, isCell, hosted}
+use Rattle.model.specs.Entries.{Read, Held, Log}
+use Rattle.model.specs.Slot.{logIn}
+use Rattle.model.specs.Table.{Holds, cellsOf, capacity, lookup, versionIn}
+use Rattle.model.specs.Answers.{done, refuse, firstOf, answer}
+use Rattle.model.specs.Append.{badRecord}
+use Rattle.model.specs.Replica.{plainly, readCell}
+use Rattle.model.specs.Run.{hasVersion, current}
+use Rattle.model.specs.Claims.{isRefused, inLog, History, wholeLog, stood, ranTo, Passed, Carried, carried, Opening, fresh, atCheckpoint, opened, Play, played, plays, hosts, shown, cellsWritten, Fit, Shows, Demand3}
+use Rattle.laws.proofs.Tables.{length-cells}
+use Rattle.claims.proofs.Cells.{how-many}
+use Rattle.claims.proofs.Runs.{run, same-version}
+use Rattle.claims.proofs.Steps.{version-same}
+use Rattle.claims.proofs.Audits.{Sound, audit-passed}
+use Rattle.claims.proofs.Openings.{hosted-none}
+use Rattle.claims.proofs.Histories.{run-at, Stood, stood-so}
+use Rattle.claims.proofs.Replicas.{Good, fresh-good, open-good, play-good, play-waiting, play-lacking}
+
+-- ---- reads that are current
+
+current-at : (cells : Holds) (rs : List Read) (x : Read) → current cells rs ≡ true → List·Memᴰ x rs → versionIn (cells x.object x.key) ≡ x .version
+current-at cells (r ∷ rs) x h (List·Memᴰ·head e) =
+    rw e (eqb-true (versionIn (cells r.object r.key)) (r .version) (version-same (r .version) (cells r.object r.key) ∙ and-l (hasVersion (r .version) (cells r.object r.key)) (current cells rs) h))
+current-at cells (r ∷ rs) x h (List·Memᴰ·tail m) = current-at cells rs x (and-r (hasVersion (r .version) (cells r.object r.key)) (current cells rs) h) m
+
+-- ---- cell reading
+
+-- an answer that is done passed its tests
+told : {A : Type 0} (a b : Bool) (x y : A) → answer (firstOf (refuse 10 a ∷ refuse 3 (not b) ∷ [])) x ≡ done y → (b ≡ true) × (x ≡ y)
+told true b x y e = clash true refl (ap isRefused e)
+told false false x y e = clash true refl (ap isRefused e)
+told false true x y e = (refl, cc)
+
+module _ (sh : Shape) (whole : Log) (r : Carried) (good : Good sh whole r) where
+  -- a replica that hosts an object has a hosted set
+  some-set : (o : ℕ) → mem o (hosts sh r) ≡ true → (b : Bool) → eqb (r .replica .hosting) 0 ≡ b → b ≡ false
+  some-set o m true e =
+      let none : hosts sh r ≡ [] = ap (hosted sh) (eqb-true (r .replica .hosting) 0 e) ∙ hosted-none sh in
+      clash (mem o (hosts sh r)) m (ap (mem o) none)
+  some-set o m false e = refl
+
+  read-done : (o k : ℕ) → mem o (hosts sh r) ≡ true → isCell sh o k ≡ true → shown sh r o k ≡ done (run whole (r .replica .position) .cells o k)
+  unfolding readCell
+  read-done o k m c =
+      let b : badRecord (r .replica) (r .table) ≡ false = neither (some-set o m (eqb (r .replica .hosting) 0) refl) (le-ltb (capacity (r .table)) (r .replica .count) (good .fits)) in
+      rw (b, m, c) (ap done (good .inv .reads o k m))
+
+  read-back : (o k : ℕ) (held : Option Held) → shown sh r o k ≡ done held → run whole (r .replica .position) .cells o k ≡ held
+  unfolding readCell
+  read-back o k held e =
+      let t = told (badRecord (r .replica) (r .table)) (mem o (hosts sh r) && isCell sh o k) (lookup (cellsOf (r .table) (r .replica .count)) o k) held e in
+      sym (good .inv .reads o k (and-l (mem o (hosts sh r)) (isCell sh o k) (t .0))) ∙ t .1
+
+-- ---- the demand
+
+abbrev whole : Shape → History → Log
+whole sh h = inLog (wholeLog sh h)
+
+abbrev at : Shape → History → Play → Log
+at sh h p = inLog (stood sh h (p .stoodAfter))
+
+module _ (sh : Shape) (shape : okShape sh ≡ true) (h : History) (room : ℕ) (sound : Sound sh (whole sh h) room) where
+  was : (n : ℕ) → Stood sh (whole sh h) (inLog (stood sh h n))
+  was n = stood-so sh shape h room n sound
+
+  opened-good : (o : Opening) (r : Carried) → opened sh h o ≡ some r → Good sh (whole sh h) r
+  opened-good (fresh set table) r e = fresh-good sh (whole sh h) set table r e
+  opened-good (atCheckpoint n o table) r e = open-good sh shape (whole sh h) room sound (inLog (stood sh h n)) (was n) o table r e
+
+  plays-good : (r : Carried) (ps : List Play) → Good sh (whole sh h) r → Good sh (whole sh h) (plays sh h r ps)
+  unfolding plays
+  plays-good r [] g = g
+  plays-good r (p ∷ ps) g =
+      plays-good (carried (played sh h r p)) ps (play-good sh shape (whole sh h) (at sh h p) (was (p .stoodAfter)) r (p .stop) g)
+
+  module _ (r : Carried) (g : Good sh (whole sh h) r) where
+    position : ranTo sh h (r .replica .position) ≡ run (whole sh h) (r .replica .position)
+    unfolding logIn
+    position = run-at sh shape h (r .replica .position) (g .below)
+
+    lacking : (p : Play) → Fit sh h r p → played sh h r p .answer ≡ plainly 13
+        → capacity (r .table) < cellsWritten (sh .objects) (hosts sh r) (ranTo sh h (played sh h r p .replica .position + 1) .cells)
+    unfolding logIn
+    lacking p f e =
+        let l = play-lacking sh shape (whole sh h) (at sh h p) (was (p .stoodAfter)) r (p .stop) g f e in
+        rw (run-at sh shape h (played sh h r p .replica .position + 1) (l .next)) (l .many)
+
+    reread : (p : ℕ) (rs : List Read) (x : Read) (held : Option Held) → p < wholeLog sh h .tail → current (ranTo sh h p .cells) rs ≡ true
+        → List·Memᴰ x rs → shown sh r x.object x.key ≡ done held → versionIn held ≡ x .version → ranTo sh h p .cells x.object x.key ≡ held
+    reread p rs x held l cur m e v =
+        let now : run (whole sh h) (r .replica .position) .cells x.object x.key ≡ held = read-back sh (whole sh h) r g (x .object) (x .key) held e in
+        let then : ranTo sh h p ≡ run (whole sh h) p = run-at sh shape h p (omega arith) in
+        let w : versionIn (run (whole sh h) p .cells x.object x.key) ≡ x .version = current-at (run (whole sh h) p .cells) rs x (rw then at cur) m in
+        rw then (same-version (whole sh h) p (r .replica .position) (x .object) (x .key) (w ∙ sym v ∙ ap versionIn (sym now)) ∙ now)
+
+    shows : Shows sh h r
+    unfolding logIn
+    shows = record {
+      cells = λ o k m c. read-done sh (whole sh h) r g o k m c ∙ ap (λ s. done (s .cells o k)) (sym position);
+      count = sym (length-cells (r .table) (r .replica .count)) ∙ how-many sh shape (hosts sh r) (cellsOf (r .table) (r .replica .count)) (run (whole sh h) (r .replica .position) .cells) (g .inv)
+          ∙ ap (λ s. cellsWritten (sh .objects) (hosts sh r) (s .cells)) (sym position);
+      waits = λ p f. play-waiting sh shape (whole sh h) (at sh h p) (was (p .stoodAfter)) r (p .stop) g f;
+      lacks = lacking;
+      rereads = λ p n c x held l i cur m e v. reread p (c .reads) x held l cur m e v;
+    }
+
+-- what holds of a replica after its plays
+pub replica-good : (sh : Shape) → okShape sh ≡ true → (h : History) (scratch : List ℕ) → Passed sh h scratch
+    → (opening : Opening) (r : Carried) → opened sh h opening ≡ some r → (ps : List Play) → Good sh (inLog (wholeLog sh h)) (plays sh h r ps)
+replica-good sh shape h scratch passed o r e ps =
+    let sound = audit-passed sh (whole sh h) scratch passed in
+    plays-good sh shape h (capacity scratch) sound r ps (opened-good sh shape h (capacity scratch) sound o r e)
+
+pub demand3 : (sh : Shape) → okShape sh ≡ true → Demand3 sh
+demand3 sh shape h scratch passed o r e ps =
+    shows sh shape h (capacity scratch) (audit-passed sh (whole sh h) scratch passed) (plays sh h r ps) (replica-good sh shape h scratch passed o r e ps)

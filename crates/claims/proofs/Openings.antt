@@ -1,0 +1,165 @@
+-- A checkpoint of a log that the audit passes shows what the run's cells of its object hold: its cells are the played ones put
+-- in key order, of which the first with a key counts, and the rules keep them ascending, so that none is there twice.
+use Prim.Native.Nat.{ℕ, suc, _+_, _*_, _/_, _%_, _<_, _≤_, _^_}
+use mathlib.Core.Path.{_≡_, refl, ap, ap₂, sym, _∙_}
+use mathlib.Core.Bool.{Bool, true, false, cond, _&&_, _||_}
+use mathlib.Core.List.{List, [], _∷_, map}
+use mathlib.Core.Option.{Option, none, some}
+use native.Mathlib.Omega.{arith}
+use borrow.Author.Tests.{eqb-true, eqb-false, eq-eqb, ltb-true, leb-true, lt-ltb}
+use lib.Dec.{eqb, ltb}
+use Rattle.lists.specs.Tests.{and-r, ands, both, or-false, clash}
+use Rattle.lists.specs.Sets.{all, mem, ascending, first-leads, rest-ascends}
+use Rattle.model.specs.Objects.{Object, Shape, ids, isObject, isCell, okShape, hostedBy, hosted, bitOf, setOf}
+use Rattle.model.specs.Entries.{Held, Saved, checkpoint, effect, Log, isNone}
+use Rattle.model.specs.Slot.{valueField}
+use Rattle.model.specs.Rules.{fits, okSaved, savedBefore, okEntry}
+use Rattle.model.specs.Table.{Cell, heldBy, lookup, cellOf, insertSaved, savedOf}
+use Rattle.model.specs.Play.{cellsIn}
+use Rattle.model.specs.Replica.{sameContent, sameSaved, auditPlay, asPlayed}
+use Rattle.laws.proofs.Items.{fitsCell, cell-small}
+use Rattle.claims.proofs.Counts.{same, same-key, other-key}
+use Rattle.claims.proofs.Cells.{cond-twice, cond-swap, held-cell, distinct, owned, present-fits, Shown}
+use Rattle.claims.proofs.Runs.{cellsAfter, run, cells-run}
+use Rattle.claims.proofs.Audits.{Sound, good-kept, tail-small, audit-shows}
+
+-- ---- the hosted set of one object
+
+none-hosted : (bs : List Object) → hostedBy bs 0 ≡ []
+none-hosted [] = refl
+none-hosted (b ∷ bs) = none-hosted bs
+
+pub hosted-none : (sh : Shape) → hosted sh 0 ≡ []
+unfolding hosted
+hosted-none sh = none-hosted (sh .objects)
+
+one-hosted : (o : ℕ) (bs : List Object) → mem o (map (λ (b : Object). b .id) bs) ≡ true → hostedBy bs (bitOf bs o) ≡ o ∷ []
+one-hosted o [] m = clash false m refl
+one-hosted o (b ∷ bs) m = go (eqb b.id o) refl m (λ i. one-hosted o bs i)
+  where
+    go : (x : Bool) → eqb b.id o ≡ x → (x || mem o (map (λ (b : Object). b .id) bs)) ≡ true → (mem o (map (λ (b : Object). b .id) bs) ≡ true → hostedBy bs (bitOf bs o) ≡ o ∷ [])
+        → hostedBy (b ∷ bs) (cond x 1 (2 * bitOf bs o)) ≡ o ∷ []
+    go true e i ih = ap₂ (λ (x : ℕ) (xs : List ℕ). x ∷ xs) (eqb-true (b .id) o e) (none-hosted bs)
+    go false e i ih =
+        let even : 2 * bitOf bs o % 2 ≡ 0 = omega arith in
+        let half : 2 * bitOf bs o / 2 ≡ bitOf bs o = omega arith in
+        rw (even, half) (ih i)
+
+pub hosted-one : (sh : Shape) (o : ℕ) → isObject sh o ≡ true → hosted sh (setOf sh o) ≡ o ∷ []
+unfolding hosted isObject
+hosted-one sh o m = one-hosted o (sh .objects) m
+
+pub mem-one : (x o : ℕ) → mem x (o ∷ []) ≡ true → o ≡ x
+mem-one x o h = eqb-true o x (sym (or-false (eqb o x)) ∙ h)
+
+-- ---- equal lists of a checkpoint's cells
+
+same-content : (x y : Option ℕ) → sameContent x y ≡ true → x ≡ y
+same-content none none h = refl
+same-content none (some y) h = clash false h refl
+same-content (some x) none h = clash false h refl
+same-content (some x) (some y) h = ap some (eqb-true x y h)
+
+same-saved : (cs ds : List Saved) → sameSaved cs ds ≡ true → cs ≡ ds
+same-saved [] [] h = refl
+same-saved [] (d ∷ ds) h = clash false h refl
+same-saved (c ∷ cs) [] h = clash false h refl
+same-saved (c ∷ cs) (d ∷ ds) h =
+    let a : eqb c.key d.key ≡ true = search ands in
+    let b : eqb c.held.version d.held.version ≡ true = search ands in
+    let e : sameContent c.held.content d.held.content ≡ true = search ands in
+    let r : cs ≡ ds = same-saved cs ds (search ands) in
+    let p = eqb-true (c .key) (d .key) a in
+    let q = eqb-true (c .held .version) (d .held .version) b in
+    let s = same-content (c .held .content) (d .held .content) e in
+    λ i. record { key = p i; held = record { version = q i; content = s i } } ∷ r i
+
+-- ---- saved cells as cells of a table
+
+abbrev pub loaded : ℕ → List Saved → List Cell
+loaded o cs = map (λ (c : Saved). cellOf o c.key c.held) cs
+
+module _ (o : ℕ) where
+  lookup-insert : (c : Saved) (l : List Saved) (x k : ℕ) → lookup (loaded o (insertSaved c l)) x k ≡ lookup (loaded o (c ∷ l)) x k
+  unfolding lookup
+  lookup-insert c [] x k = refl
+  lookup-insert c (d ∷ l) x k = go (ltb c.key d.key) (eqb c.key d.key) refl (lookup-insert c l x k)
+    where
+      held : Saved → Option Held
+      held y = some (heldBy (cellOf o (y .key) (y .held)))
+
+      go : (b e : Bool) → eqb c.key d.key ≡ e → lookup (loaded o (insertSaved c l)) x k ≡ lookup (loaded o (c ∷ l)) x k
+          → lookup (loaded o (cond b (c ∷ d ∷ l) (cond e (c ∷ l) (d ∷ insertSaved c l)))) x k ≡ lookup (loaded o (c ∷ d ∷ l)) x k
+      go true e q ih = refl
+      go false true q ih = rw (← eqb-true (c .key) (d .key) q) (cond-twice (same o c.key x k) (held c) (held d) (lookup (loaded o l) x k))
+      go false false q ih = rw ih (cond-swap (same o d.key x k) (same o c.key x k) (held d) (held c) (lookup (loaded o l) x k)
+          (λ i j. eqb-false (c .key) (d .key) q (same-key o c.key x k j ∙ sym (same-key o d.key x k i))))
+
+  -- the saved cells of the object read as the table's
+  lookup-saved : (cs : List Cell) (k : ℕ) → lookup (loaded o (savedOf o cs)) o k ≡ lookup cs o k
+  unfolding lookup savedOf
+  lookup-saved [] k = refl
+  lookup-saved (c ∷ cs) k = go (eqb c.object o) refl (lookup-saved cs k)
+    where
+      saved : Saved
+      saved = record { key = c .key; held = heldBy c }
+
+      go : (b : Bool) → eqb c.object o ≡ b → lookup (loaded o (savedOf o cs)) o k ≡ lookup cs o k
+          → lookup (loaded o (cond b (insertSaved saved (savedOf o cs)) (savedOf o cs))) o k ≡ cond (b && eqb c.key k) (some (heldBy c)) (lookup cs o k)
+      go true e ih = lookup-insert saved (savedOf o cs) o k ∙ rw (held-cell o (c .key) (heldBy c), eq-eqb o o refl, ih)
+      go false e ih = ih
+
+  -- an ascending list has no key twice
+  absent : (k : ℕ) (c : Saved) (cs : List Saved) → k < c .key → ascending savedBefore (c ∷ cs) ≡ true → isNone (lookup (loaded o (c ∷ cs)) o k) ≡ true
+  unfolding lookup
+  absent k c [] l a = let n : c .key ≡ k → ⊥ = omega arith in rw (other-key o (c .key) o k n)
+  absent k c (d ∷ cs) l a =
+      let n : c .key ≡ k → ⊥ = omega arith in
+      let u : c .key < d .key = ltb-true (c .key) (d .key) (first-leads savedBefore c (d ∷ cs) a) in
+      rw (other-key o (c .key) o k n) (absent k d cs (omega arith) (rest-ascends savedBefore c (d ∷ cs) a))
+
+  ascending-distinct : (cs : List Saved) → ascending savedBefore cs ≡ true → distinct (loaded o cs) ≡ true
+  unfolding lookup
+  ascending-distinct [] a = refl
+  ascending-distinct (c ∷ []) a = refl
+  ascending-distinct (c ∷ d ∷ cs) a =
+      let r : ascending savedBefore (d ∷ cs) ≡ true = rest-ascends savedBefore c (d ∷ cs) a in
+      both (absent c.key d cs (ltb-true (c .key) (d .key) (first-leads savedBefore c (d ∷ cs) a)) r) (ascending-distinct (d ∷ cs) r)
+
+  module _ (sh : Shape) (shape : okShape sh ≡ true) (p : ℕ) (few : p ≤ 131072) where
+    loaded-owned : (cs : List Saved) → all (okSaved sh p o) cs ≡ true → all (owned sh (o ∷ [])) (loaded o cs) ≡ true
+    unfolding okSaved owned isCell
+    loaded-owned [] h = refl
+    loaded-owned (c ∷ cs) h =
+        let a : isCell sh o c.key ≡ true = search ands in
+        let small = cell-small o c.key (sh .objects) (search ands) a in
+        let v : c .held .version ≤ p = leb-true _ _ (search ands) in
+        let x : fits 4 (valueField c.held.content) ≡ true = search ands in
+        let m : mem o (o ∷ []) ≡ true = rw (eq-eqb o o refl) in
+        let f : fitsCell (cellOf o c.key c.held) ≡ true =
+        both (both (both (both (lt-ltb o (256 ^ 4) (omega arith)) (lt-ltb c.key (256 ^ 4) (omega arith))) x) (present-fits (c .held .content)))
+        (lt-ltb c.held.version (256 ^ 8) (omega arith)) in
+        both (both (both m a) f) (loaded-owned cs (and-r (okSaved sh p o c) (all (okSaved sh p o) cs) h))
+
+pub checkpoint-shows : (sh : Shape) → okShape sh ≡ true → (log : Log) (room : ℕ) → Sound sh log room
+    → (d o : ℕ) (cs : List Saved) → d < log .tail → log .entry d ≡ checkpoint o cs → Shown sh (o ∷ []) (loaded o cs) (run log (suc d) .cells)
+unfolding okEntry isObject
+checkpoint-shows sh shape log room sound d o cs l e =
+    let k : okEntry sh log d (checkpoint o cs) ≡ true = rw e at (good-kept sh log (sound .good) d l) in
+    let m : mem o (ids sh) ≡ true = search ands in
+    let t : asPlayed sh log room d (checkpoint o cs) ≡ true = rw e at (sound .told d l) in
+    let played : List Cell = cellsIn (auditPlay sh log room d) in
+    let kept : run log (suc d) .cells ≡ run log d .cells = cells-run log d ∙ ap (λ x. cellsAfter (d + 1) (run log d) (effect x)) e in
+    let there : (i : ℕ) → lookup (loaded o cs) o i ≡ run log (suc d) .cells o i =
+    λ i. ap (λ y. lookup (loaded o y) o i) (same-saved cs (savedOf o played) t) ∙ lookup-saved o played i
+    ∙ audit-shows sh shape log room sound d (omega arith) .reads o i m ∙ ap (λ c. c o i) (sym kept) in
+    record {
+      reads = λ x i h. rw (← mem-one x o h) (there i);
+      each = loaded-owned o sh shape d (omega (arith, tail-small log (sound .frame))) cs (search ands);
+      once = ascending-distinct o cs (search ands);
+    }
+
+-- the object of a checkpoint is in the directory
+pub checkpoint-object : (sh : Shape) (log : Log) (d o : ℕ) (cs : List Saved) → okEntry sh log d (checkpoint o cs) ≡ true → isObject sh o ≡ true
+unfolding okEntry
+checkpoint-object sh log d o cs k = search ands

@@ -1,0 +1,140 @@
+-- The run over the entries of a log, as it is fed their requests: its count is the offset, the writes set aside are those of
+-- the scan, it depends on the entries below alone, and a cell holds now what it held when the count was its version.
+use Prim.Native.Nat.{ℕ, zero, suc, _+_}
+use mathlib.Core.Path.{_≡_, refl, ap, sym, _∙_}
+use mathlib.Core.Bool.{Bool, true, false, cond, _&&_}
+use mathlib.Core.List.{List, [], _∷_, _++_, append-nil}
+use mathlib.Core.Option.{Option, some}
+use native.Mathlib.Omega.{arith}
+use native.Mathlib.Numerals.{add-one}
+use lib.Dec.{eqb}
+use Rattle.model.specs.Entries.{Write, Held, plain, numbered, Effect, writes, aside, tries, inert, effect, Log, asideUnder, writesOf, commitAt, ifSome}
+use Rattle.model.specs.Table.{Holds, versionIn}
+use Rattle.model.specs.Append.{Request, update, commits, decides, saves, writesGiven, entryOf}
+use Rattle.model.specs.Run.{Run, start, current, written, madeAll, setAside, accept}
+use Rattle.laws.proofs.Agree.{Agree, fewer}
+
+abbrev pub cellsAfter : ℕ → Run → Effect → Holds
+cellsAfter v s (writes ws) = madeAll v ws (s .cells)
+cellsAfter v s (aside n ws) = s .cells
+cellsAfter v s (tries n c) = cond (current (s .cells) (c .reads)) (madeAll v (s .aside n) (s .cells)) (s .cells)
+cellsAfter v s inert = s .cells
+
+abbrev pub asideAfter : Run → Effect → ℕ → List Write
+asideAfter s (writes ws) = s .aside
+asideAfter s (aside n ws) = setAside n ws (s .aside)
+asideAfter s (tries n c) = s .aside
+asideAfter s inert = s .aside
+
+abbrev pub runStep : ℕ → Run → Effect → Run
+runStep v s e = record { count = v; cells = cellsAfter v s e; aside = asideAfter s e }
+
+-- the run over the first p entries
+pub run : Log → ℕ → Run
+run log zero = start
+run log (suc p) = runStep (p + 1) (run log p) (effect (log .entry p))
+
+pub run-start : (log : Log) → run log 0 ≡ start
+unfolding run
+run-start log = refl
+
+pub count-run : (log : Log) (p : ℕ) → run log p .count ≡ p
+unfolding run
+count-run log zero = refl
+count-run log (suc p) = add-one p
+
+pub aside-run : (log : Log) (n p : ℕ) → run log p .aside n ≡ writesOf log n p
+unfolding run writesOf
+aside-run log n zero = refl
+aside-run log n (suc p) = go (effect (log .entry p)) (aside-run log n p)
+  where
+    pick : (b : Bool) (xs ws : List Write) → cond b (xs ++ ws) xs ≡ xs ++ cond b ws []
+    pick true xs ws = refl
+    pick false xs ws = sym (append-nil xs)
+
+    go : (e : Effect) → run log p .aside n ≡ writesOf log n p → asideAfter (run log p) e n ≡ writesOf log n p ++ asideUnder n e
+    go (writes ws) h = h ∙ sym (append-nil (writesOf log n p))
+    go (aside m ws) h = rw h (pick (eqb m n) (writesOf log n p) ws)
+    go (tries m c) h = h ∙ sym (append-nil (writesOf log n p))
+    go inert h = h ∙ sym (append-nil (writesOf log n p))
+
+-- the cells after the entry at p
+pub cells-run : (log : Log) (p : ℕ) → run log (suc p) .cells ≡ cellsAfter (p + 1) (run log p) (effect (log .entry p))
+unfolding run
+cells-run log p = refl
+
+pub run-agree : (log log′ : Log) (p : ℕ) → Agree log log′ p → run log p ≡ run log′ p
+unfolding run
+run-agree log log′ zero a = refl
+run-agree log log′ (suc p) a = rw (run-agree log log′ p (fewer log log′ (suc p) p (omega arith) a), a p (omega arith))
+
+-- whether the commit record at p commits in the run
+abbrev pub commitsAt : Log → ℕ → Bool
+commitsAt log p = ifSome (commitAt log p) false (λ c. current (run log p .cells) (c .claim .reads))
+
+-- ---- fed a request
+
+accept-step : (v : ℕ) (s : Run) (q : Request) → accept v s q ≡ runStep v s (effect (entryOf q))
+unfolding accept entryOf
+accept-step v s (update n items) = go (eqb n 0)
+  where
+    go : (b : Bool) → cond b (record { count = v; cells = madeAll v (writesGiven items) (s .cells); aside = s .aside })
+        (record { count = v; cells = s .cells; aside = setAside n (writesGiven items) (s .aside) })
+        ≡ runStep v s (effect (cond b (plain (writesGiven items)) (numbered n (writesGiven items))))
+    go true = refl
+    go false = refl
+accept-step v s (commits n items) = refl
+accept-step v s (decides o x) = refl
+accept-step v s (saves r table o) = refl
+
+pub run-next : (log : Log) (q : Request) (p : ℕ) → log .entry p ≡ entryOf q → accept (run log p .count + 1) (run log p) q ≡ run log (suc p)
+unfolding run
+run-next log q p e = accept-step _ (run log p) q ∙ ap (λ (n : ℕ). runStep (n + 1) (run log p) (effect (entryOf q))) (count-run log p)
+    ∙ ap (λ x. runStep (p + 1) (run log p) (effect x)) (sym e)
+
+-- ---- a cell's version tells what it holds
+
+-- y is x, or has the version v
+data Kept (v : ℕ) (x y : Option Held) : Type 0 where
+  kept : y ≡ x → Kept v x y
+  made : versionIn y ≡ v → Kept v x y
+
+made-kept : (v : ℕ) (ws : List Write) (cells : Holds) (o k : ℕ) → Kept v (cells o k) (madeAll v ws cells o k)
+made-kept v [] cells o k = kept refl
+made-kept v (w ∷ ws) cells o k = go (made-kept v ws (written v w cells) o k)
+  where
+    one : (b : Bool) (h : Held) → h .version ≡ v → Kept v (cells o k) (cond b (some h) (cells o k))
+    one true h e = made e
+    one false h e = kept refl
+
+    both : (x y : Option Held) → Kept v (cells o k) x → y ≡ x → Kept v (cells o k) y
+    both x y (kept d) e = kept (e ∙ d)
+    both x y (made d) e = made (ap versionIn e ∙ d)
+
+    go : Kept v (written v w cells o k) (madeAll v ws (written v w cells) o k) → Kept v (cells o k) (madeAll v ws (written v w cells) o k)
+    go (kept e) = both (written v w cells o k) (madeAll v ws (written v w cells) o k) (one (eqb w.object o && eqb w.key k) _ refl) e
+    go (made e) = made e
+
+step-kept : (v : ℕ) (s : Run) (e : Effect) (o k : ℕ) → Kept v (s .cells o k) (cellsAfter v s e o k)
+step-kept v s (writes ws) o k = made-kept v ws (s .cells) o k
+step-kept v s (aside n ws) o k = kept refl
+step-kept v s (tries n c) o k = go (current (s .cells) (c .reads))
+  where
+    go : (b : Bool) → Kept v (s .cells o k) (cond b (madeAll v (s .aside n) (s .cells)) (s .cells) o k)
+    go true = made-kept v (s .aside n) (s .cells) o k
+    go false = kept refl
+step-kept v s inert o k = kept refl
+
+settled : (log : Log) (p o k : ℕ) → run log p .cells o k ≡ run log (versionIn (run log p .cells o k)) .cells o k
+unfolding run
+settled log zero o k = refl
+settled log (suc p) o k = go (settled log p o k) (step-kept (p + 1) (run log p) (effect (log .entry p)) o k)
+  where
+    go : run log p .cells o k ≡ run log (versionIn (run log p .cells o k)) .cells o k
+        → Kept (p + 1) (run log p .cells o k) (run log (suc p) .cells o k)
+        → run log (suc p) .cells o k ≡ run log (versionIn (run log (suc p) .cells o k)) .cells o k
+    go ih (kept e) = e ∙ ih ∙ ap (λ x. run log (versionIn x) .cells o k) (sym e)
+    go ih (made e) = ap (λ v. run log v .cells o k) (sym (e ∙ add-one p))
+
+pub same-version : (log : Log) (p q o k : ℕ) → versionIn (run log p .cells o k) ≡ versionIn (run log q .cells o k) → run log p .cells o k ≡ run log q .cells o k
+same-version log p q o k e = settled log p o k ∙ ap (λ v. run log v .cells o k) e ∙ sym (settled log q o k)

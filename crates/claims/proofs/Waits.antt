@@ -1,0 +1,137 @@
+-- Where a play waits: a step waits exactly where its entry is blocked, so a play stops at the first blocked entry, or before it
+-- for lack of room. By cases of the entry, then by induction over the entries played.
+use Prim.Native.Nat.{ℕ, zero, suc, _+_, _-_, _<_, _≤_}
+use mathlib.Core.Path.{_≡_, refl, ap, sym}
+use mathlib.Core.Bool.{Bool, true, false, cond, not, _&&_}
+use mathlib.Core.List.{List}
+use mathlib.Core.Option.{Option, none, some}
+use native.Mathlib.Omega.{arith}
+use native.Mathlib.Nat.{add-suc}
+use borrow.Author.Tests.{eqb-true, eqb-false}
+use lib.Dec.{eqb, leb}
+use lib.ListN.{length}
+use Rattle.lists.specs.Tests.{clash}
+use Rattle.lists.specs.Sets.{meets}
+use Rattle.model.specs.Entries.{Write, Commit, Entry, plain, numbered, commit, decision, checkpoint, blank, effect, Log, writesOf, commitIn, commitObjects, ifSome, isNone, decided, headerObjects}
+use Rattle.model.specs.Table.{Cell, lookup, apply}
+use Rattle.model.specs.Play.{Played, going, waits, lacks, commitsOver, alone, saysCommit, make, finish, act, step, andThen, play}
+use Rattle.model.specs.Answers.{Answer, done, refused}
+use Rattle.model.specs.Replica.{plainly, leftBy}
+use Rattle.model.specs.Claims.{blocked, Waiting, isRefused}
+
+abbrev pub refusalNumber : Answer (Unit {0}) → ℕ
+refusalNumber (done a) = 0
+refusalNumber (refused r) = r .number
+
+-- what a step at p says of whether the entry there is blocked
+abbrev StepWait : ℕ → Bool → Played → Type 0
+StepWait p b (going cs) = b ≡ false
+StepWait p b (waits q cs) = (q ≡ p) × (b ≡ true)
+StepWait p b (lacks q cs) = (q ≡ p) × (b ≡ false)
+
+module _ (set : List ℕ) (room p : ℕ) (cs : List Cell) where
+  make-wait : (ws : List Write) → StepWait p false (make set room p ws cs)
+  make-wait ws = go (leb (length (apply set (p + 1) ws cs)) room)
+    where
+      go : (b : Bool) → StepWait p false (cond b (going (apply set (p + 1) ws cs)) (lacks p cs))
+      go true = refl
+      go false = (refl, refl)
+
+  told : (ws : List Write) (b : Bool) → StepWait p false (finish set room p ws cs (some b))
+  told ws true = make-wait ws
+  told ws false = refl
+
+  commit-wait : (ws : List Write) (m a s : Bool) (v : Option ℕ) → StepWait p (m && not a && isNone v) (cond m (finish set room p ws cs (cond a (some s) (saysCommit v))) (going cs))
+  commit-wait ws false a s v = refl
+  commit-wait ws true true s v = told ws s
+  commit-wait ws true false s none = (refl, refl)
+  commit-wait ws true false s (some v) = told ws (eqb v 1)
+
+  idle-wait : (m : Bool) → StepWait p false (cond m (going cs) (going cs))
+  idle-wait true = refl
+  idle-wait false = refl
+
+-- whether an entry at p is blocked
+abbrev blockedBy : Log → List ℕ → ℕ → Option Commit → Bool
+blockedBy log set p x = ifSome x false (λ c. meets set (commitObjects log p (c .number)) && not (alone set (c .claim)) && isNone (decided log p (log .tail)))
+
+module _ (log : Log) (set : List ℕ) (room : ℕ) where
+  entry-wait : (p : ℕ) (cs : List Cell) (e : Entry)
+      → StepWait p (blockedBy log set p (commitIn (effect e))) (cond (meets set (headerObjects log p e)) (act log set room p cs (effect e)) (going cs))
+  unfolding headerObjects
+  entry-wait p cs (plain ws) = go (meets set (headerObjects log p (plain ws)))
+    where
+      go : (m : Bool) → StepWait p false (cond m (make set room p ws cs) (going cs))
+      go true = make-wait set room p cs ws
+      go false = refl
+  entry-wait p cs (numbered n ws) = idle-wait set room p cs (meets set (headerObjects log p (numbered n ws)))
+  entry-wait p cs (commit n c) =
+      commit-wait set room p cs (writesOf log n p) (meets set (commitObjects log p n)) (alone set c) (commitsOver (lookup cs) c) (decided log p (log .tail))
+  entry-wait p cs (decision o v) = idle-wait set room p cs (meets set (headerObjects log p (decision o v)))
+  entry-wait p cs (checkpoint o xs) = idle-wait set room p cs (meets set (headerObjects log p (checkpoint o xs)))
+  entry-wait p cs blank = idle-wait set room p cs (meets set (headerObjects log p blank))
+
+  -- no record from p up to q is blocked
+  abbrev Clear : ℕ → ℕ → Type 0
+  Clear p q = (p ≤ q) × ((x : ℕ) → p ≤ x → x < q → blocked log set x ≡ false)
+
+  abbrev PlayWait : ℕ → ℕ → Played → Type 0
+  PlayWait p n (going cs) = Clear p (p + n)
+  PlayWait p n (waits q cs) = (q < p + n) × (blocked log set q ≡ true) × Clear p q
+  PlayWait p n (lacks q cs) = (q < p + n) × (blocked log set q ≡ false) × Clear p q
+
+  one-more : (p q : ℕ) → Clear p q → blocked log set q ≡ false → Clear p (suc q)
+  one-more p q c b = (omega (arith, c .0), λ x l h. go x l h (eqb x q) refl)
+    where
+      less : (x : ℕ) → x < suc q → (x ≡ q → ⊥) → x < q
+      less x h d = omega arith
+
+      go : (x : ℕ) → p ≤ x → x < suc q → (e : Bool) → eqb x q ≡ e → blocked log set x ≡ false
+      go x l h true e = rw (eqb-true x q e) b
+      go x l h false e = c .1 x l (less x h (eqb-false x q e))
+
+  play-wait : (p : ℕ) (cs : List Cell) (n : ℕ) → PlayWait p n (play log set room p cs n)
+  unfolding play step
+  play-wait p cs zero = (omega arith, λ x l h. absurd (omega arith))
+  play-wait p cs (suc n) = go (play log set room p cs n) (play-wait p cs n)
+    where
+      took : (x : Played) → StepWait (p + n) (blocked log set (p + n)) x → Clear p (p + n) → PlayWait p (suc n) x
+      took (going u) w c = rw add-suc (one-more p (p + n) c w)
+      took (waits q u) w c = (omega (arith, w .0), rw (w .0) (w .1), rw (w .0) c)
+      took (lacks q u) w c = (omega (arith, w .0), rw (w .0) (w .1), rw (w .0) c)
+
+      go : (x : Played) → PlayWait p n x → PlayWait p (suc n) (andThen x (step log set room (p + n)))
+      go (going u) c = took (step log set room (p + n) u) (entry-wait (p + n) u (log .entry (p + n))) c
+      go (waits q u) c = (omega (arith, c .0), c .1, c .2)
+      go (lacks q u) c = (omega (arith, c .0), c .1, c .2)
+
+  -- what a play to a stop leaves is as demanded
+  pub play-waits : (hosting p stop : ℕ) (table : List ℕ) (cs : List Cell) → p ≤ stop
+      → Waiting log set p stop (leftBy hosting stop table (play log set room p cs (stop - p)))
+  play-waits hosting p stop table cs l = go (play log set room p cs (stop - p)) (play-wait p cs (stop - p))
+    where
+      go : (x : Played) → PlayWait p (stop - p) x → Waiting log set p stop (leftBy hosting stop table x)
+      go (going u) w = record {
+        exactly = ((λ e. clash true refl (ap isRefused (sym e))), (λ h. absurd (omega (arith, h .0))));
+        passes = λ q a b. w .1 q a (omega arith);
+        notBack = l;
+        notPast = omega arith;
+        there = λ e. refl;
+      }
+      go (waits q u) w = record {
+        exactly = ((λ e. (omega (arith, w .0), w .1)), (λ h. refl));
+        passes = w .2 .1;
+        notBack = w .2 .0;
+        notPast = omega (arith, w .0);
+        there = λ e. clash true refl (ap isRefused e);
+      }
+      go (lacks q u) w = record {
+        exactly = ((λ e. thirteen e), (λ h. clash (blocked log set q) (h .1) (w .1)));
+        passes = w .2 .1;
+        notBack = w .2 .0;
+        notPast = omega (arith, w .0);
+        there = λ e. clash true refl (ap isRefused e);
+      }
+        where
+          thirteen : plainly 13 ≡ plainly 12 → (q < stop) × (blocked log set q ≡ true)
+          thirteen e = absurd (let n : 13 ≡ 12 = ap refusalNumber e in omega arith)
