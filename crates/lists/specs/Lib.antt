@@ -4,6 +4,7 @@ pub mod Bytes
 pub mod Rows
 pub mod Sets
 pub mod First
+pub mod Every
 pub mod Picks
 pub mod Fold
 pub mod Equal

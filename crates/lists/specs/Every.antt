@@ -1,0 +1,44 @@
+-- A test of every value of a list of values, as a loop over the indices makes it: the first index that fails it.
+use mathlib.Core.Path.{_≡_, refl, ap, ap₂, sym, _∙_}
+use mathlib.Core.Bool.{Bool, true, false, cond, not, _&&_}
+use mathlib.Core.List.{List, [], _∷_}
+use Prim.Native.Nat.{ℕ, zero, suc, _+_, _-_, _≤_, _<_}
+use native.Mathlib.Omega.{arith}
+use lib.Dec.{ltb}
+use borrow.Author.Tests.{ltb-true, ltb-false, not-true, not-false}
+use Rattle.lists.specs.Tests.{clash, both}
+use Rattle.lists.specs.Sets.{all}
+use Rattle.lists.specs.Rows.{values}
+use Rattle.lists.specs.First.{first, Seeking, seeking-end, first-below}
+
+module _ {A : Type 0} (f : A → Bool) (g : ℕ → A) where
+  -- the index fails the test
+  abbrev pub failing : ℕ → Bool
+  failing k = not (f (g k))
+
+  every : (i n : ℕ) → ((k : ℕ) → i ≤ k → k < i + n → f (g k) ≡ true) → all f (values g i n) ≡ true
+  unfolding values
+  every i zero h = refl
+  every i (suc n) h = both (h i (omega arith) (omega arith)) (every (suc i) n (λ k l m. h k (omega arith) (omega arith)))
+
+  some-fails : (i n k : ℕ) → i ≤ k → k < i + n → f (g k) ≡ false → all f (values g i n) ≡ false
+  unfolding values
+  some-fails i zero k l m e = absurd (omega arith)
+  some-fails i (suc n) k l m e = go (f (g i)) refl (ltb i k) refl (λ h. some-fails (suc i) n k h (omega arith) e)
+    where
+      go : (b : Bool) → f (g i) ≡ b → (c : Bool) → ltb i k ≡ c → (suc i ≤ k → all f (values g (suc i) n) ≡ false) → (b && all f (values g (suc i) n)) ≡ false
+      go false p c q ih = refl
+      go true p true q ih = ih (ltb-true i k q)
+      go true p false q ih =
+          let same : i ≡ k = omega (arith, ltb-false i k q) in
+          clash (f (g i)) p (ap (λ (m : ℕ). f (g m)) same ∙ e)
+
+  -- the loop found an index that fails
+  pub every-not : {n i : ℕ} → Seeking failing n i → i < n → failing i ≡ true → all f (values g 0 n) ≡ false
+  every-not {n} {i} s l e = some-fails 0 n i (omega arith) (omega arith) (not-true (f (g i)) e)
+
+  -- the loop found none
+  pub every-all : {n i : ℕ} → Seeking failing n i → n ≤ i → all f (values g 0 n) ≡ true
+  every-all {n} {i} s l =
+      let e : first failing n ≡ n = seeking-end s l in
+      every 0 n (λ k a b. not-false (f (g k)) (first-below failing n k (rw e (omega arith))))
