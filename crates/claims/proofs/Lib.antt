@@ -12,3 +12,6 @@ pub mod Openings
 pub mod Histories
 pub mod Replicas
 pub mod Demand3
+pub mod Outcomes
+pub mod Demand2
+pub mod Depots
