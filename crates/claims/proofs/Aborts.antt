@@ -4,18 +4,19 @@ use mathlib.Core.Path.{_≡_, refl, ap, sym, _∙_}
 use mathlib.Core.Logic.{_↔_, _⊎_, inl, inr}
 use mathlib.Core.Bool.{Bool, true, false, cond, _&&_}
 use mathlib.Core.List.{List, [], _∷_, List·Memᴰ, List·Memᴰ·head, List·Memᴰ·tail, List·Memᴰ·cases-cons, List·Memᴰ·not-nil}
-use mathlib.Core.Option.{Option, none, some, Option·some-injective}
+use mathlib.Core.Option.{some, Option·some-injective}
 use lib.Dec.{eqb}
-use borrow.Author.Tests.{eqb-false, ne-eqb}
+use borrow.Author.Tests.{eqb-true, eqb-false, ne-eqb}
 use Rattle.lists.specs.Sets.{all}
 use Rattle.lists.specs.Tests.{clash}
 use Rattle.model.specs.Objects.{Shape}
-use Rattle.model.specs.Entries.{Read, Held, Claim}
+use Rattle.model.specs.Entries.{Read, Claim}
 use Rattle.model.specs.Table.{Holds, versionIn, lookup, cellsOf}
 use Rattle.model.specs.Play.{commitsOver}
 use Rattle.model.specs.Append.{claimGiven}
 use Rattle.model.specs.Run.{hasVersion, current, accept, madeAll}
 use Rattle.model.specs.Claims.{Stale, RunAborts, ReplicaAborts}
+use Rattle.claims.proofs.Runs.{version-same}
 
 -- ---- a list's test that fails
 
@@ -55,11 +56,9 @@ module _ (cells : Holds) where
 
   fresh-exact : (x : Read) → (fresh x ≡ false) ↔ (versionIn (cells x.object x.key) ≡ x .version → ⊥)
   unfolding fresh
-  fresh-exact x = by (cells x.object x.key)
-    where
-      by : (h : Option Held) → (hasVersion (x .version) h ≡ false) ↔ (versionIn h ≡ x .version → ⊥)
-      by none = (λ e q. eqb-false (x .version) 0 e (sym q), λ n. ne-eqb (x .version) 0 (λ q. n (sym q)))
-      by (some h) = (λ e q. eqb-false (x .version) (h .version) e (sym q), λ n. ne-eqb (x .version) (h .version) (λ q. n (sym q)))
+  fresh-exact x =
+      let same = version-same (x .version) (cells x.object x.key) in
+      (λ e. eqb-false _ _ (same ∙ e), λ n. sym same ∙ ne-eqb _ _ n)
 
   current-all : (xs : List Read) → current cells xs ≡ all fresh xs
   unfolding fresh
@@ -71,6 +70,14 @@ module _ (cells : Holds) where
 
   pub old-stale : (c : Claim) → current cells (c .reads) ≡ false → Stale cells c
   old-stale c e = fails-stale cells fresh fresh-exact c (sym (current-all (c .reads)) ∙ e)
+
+  -- a read of current reads has its cell's version
+  pub current-at : (c : Claim) (x : Read) → current cells (c .reads) ≡ true → List·Memᴰ x (c .reads) → versionIn (cells x.object x.key) ≡ x .version
+  current-at c x h m = by (eqb (versionIn (cells x.object x.key)) x.version) refl
+    where
+      by : (b : Bool) → eqb (versionIn (cells x.object x.key)) x.version ≡ b → versionIn (cells x.object x.key) ≡ x .version
+      by true e = eqb-true _ _ e
+      by false e = clash (current cells (c .reads)) h (stale-old c (x, m, eqb-false _ _ e))
 
 pub run-aborts : RunAborts
 unfolding accept

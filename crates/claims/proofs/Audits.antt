@@ -2,17 +2,17 @@
 -- what the run's cells hold. The audit hosts everything, so it needs no decision record, and its cells are the run's.
 use Prim.Native.Nat.{ℕ, zero, suc, _+_, _-_, _<_, _≤_}
 use mathlib.Core.Path.{_≡_, refl, ap, _∙_}
-use mathlib.Core.Bool.{Bool, true, false, cond, not}
-use mathlib.Core.List.{List, [], _∷_, _++_}
+use mathlib.Core.Bool.{Bool, true, false, not}
+use mathlib.Core.List.{List, [], _∷_}
 use mathlib.Core.Option.{Option, none, some}
 use native.Mathlib.Omega.{arith}
 use native.Mathlib.Nat.{add-suc, add-zero}
 use borrow.Author.Tests.{ltb-true, ltb-false, not-false}
 use lib.Dec.{eqb, ltb}
-use Rattle.lists.specs.Tests.{and-l, and-r, ands, ors, both, beq-true, clash}
+use Rattle.lists.specs.Tests.{and-r, ands, ors, both, beq-true, clash}
 use Rattle.lists.specs.Sets.{all, within}
 use Rattle.model.specs.Objects.{Shape, ids, isCell, okShape, everything}
-use Rattle.model.specs.Entries.{Write, Read, Claim, Entry, plain, numbered, commit, decision, checkpoint, blank, Effect, writes, aside, tries, inert, effect, Log, commitIn, ifSome, readObjects, asideUnder, writesOf}
+use Rattle.model.specs.Entries.{Write, Read, Claim, Entry, plain, numbered, commit, decision, checkpoint, blank, Effect, writes, aside, tries, inert, effect, Log, commitIn, ifSome, readObjects}
 use Rattle.model.specs.Rules.{okWrite, okWrites, okRead, okReads, okEntry, lowestBad}
 use Rattle.model.specs.Table.{Cell, lookup, capacity}
 use Rattle.model.specs.Play.{Played, going, waits, lacks, cellsIn, alone, commitsOver, step, andThen, play}
@@ -20,9 +20,9 @@ use Rattle.model.specs.Answers.{Refusal, done, answer, firstOf, slots, badFrame
 use Rattle.model.specs.Replica.{auditPlay, commitsThere, asPlayed, lowestFalse, auditGiven, audit}
 use Rattle.model.specs.Run.{current}
 use Rattle.model.specs.Claims.{isRefused}
-use Rattle.laws.proofs.Refusals.{all-pass, refuse-none, refuseAt-none, lowest-none, good-below}
-use Rattle.laws.proofs.Slots.{Kept}
-use Rattle.laws.proofs.Appends.{good-obeys, frame-few}
+use Rattle.laws.proofs.Refusals.{all-pass, refuse-none, refuseAt-none, lowest-none}
+use Rattle.laws.proofs.Slots.{Kept, writes-ok}
+use Rattle.laws.proofs.Appends.{good-kept, frame-few}
 use Rattle.claims.proofs.Counts.{cell-object}
 use Rattle.claims.proofs.Cells.{Shown}
 use Rattle.claims.proofs.Runs.{run, commitsAt}
@@ -66,13 +66,6 @@ audit-passed sh log scratch h =
 
 -- ---- what the rules say of writes and reads
 
-pub good-kept : (sh : Shape) (log : Log) → lowestBad sh log ≡ none → Kept sh log (log .tail)
-good-kept sh log g d l = good-obeys sh log d (good-below sh log g d l)
-
-all-append : {A : Type 0} (f : A → Bool) (xs ys : List A) → all f xs ≡ true → all f ys ≡ true → all f (xs ++ ys) ≡ true
-all-append f [] ys p q = q
-all-append f (x ∷ xs) ys p q = both (and-l (f x) (all f xs) p) (all-append f xs ys (and-r (f x) (all f xs) p) q)
-
 -- every object read is in the directory
 reads-within : (sh : Shape) (p : ℕ) (rs : List Read) → all (okRead sh p) rs ≡ true → within (ids sh) (readObjects (record { reads = rs })) ≡ true
 unfolding okRead isCell
@@ -83,8 +76,8 @@ reads-within sh p (r ∷ rs) h =
 module _ (sh : Shape) (log : Log) (tail : ℕ) (kept : Kept sh log tail) where
   -- writes obey the rules, those set aside too
   pub placed : (p : ℕ) → p < tail → Placed sh log p
-  unfolding okEntry okWrites writesOf
-  placed p l = record { now = λ ws e. now ws (log .entry p) (kept p l) e; late = λ n. set-aside n p (omega arith) }
+  unfolding okEntry okWrites
+  placed p l = record { now = λ ws e. now ws (log .entry p) (kept p l) e; late = λ n. writes-ok sh log n p (λ o h. kept o (omega arith)) }
     where
       now : (ws : List Write) (x : Entry) → okEntry sh log p x ≡ true → effect x ≡ writes ws → all (okWrite sh) ws ≡ true
       now ws (plain us) k q =
@@ -96,23 +89,6 @@ module _ (sh : Shape) (log : Log) (tail : ℕ) (kept : Kept sh log tail) where
       now ws (decision o v) k q = clash true refl (cc)
       now ws (checkpoint o cs) k q = clash true refl (cc)
       now ws blank k q = clash true refl (cc)
-
-      one : (n q : ℕ) (e : Entry) → okEntry sh log q e ≡ true → all (okWrite sh) (asideUnder n (effect e)) ≡ true
-      one n q (plain ws) k = refl
-      one n q (numbered m ws) k = pick (eqb m n)
-        where
-          pick : (b : Bool) → all (okWrite sh) (cond b ws []) ≡ true
-          pick true = search ands
-          pick false = refl
-      one n q (commit m c) k = refl
-      one n q (decision o v) k = refl
-      one n q (checkpoint o cs) k = refl
-      one n q blank k = refl
-
-      set-aside : (n q : ℕ) → q ≤ tail → all (okWrite sh) (writesOf log n q) ≡ true
-      set-aside n zero h = refl
-      set-aside n (suc q) h =
-          all-append (okWrite sh) (writesOf log n q) (asideUnder n (effect (log .entry q))) (set-aside n q (omega arith)) (one n q (log .entry q) (kept q (omega arith)))
 
   -- a commit record's reads are all hosted by the audit
   hosted-reads : (p n : ℕ) (c : Claim) → p < tail → effect (log .entry p) ≡ tries n c → alone (ids sh) c ≡ true

@@ -3,37 +3,30 @@
 use Prim.Native.Nat.{ℕ, _+_, _<_}
 use mathlib.Core.Path.{_≡_, refl, ap, sym, _∙_}
 use mathlib.Core.Bool.{Bool, true, false, not, _&&_}
-use mathlib.Core.List.{List, [], _∷_, List·Memᴰ, List·Memᴰ·head, List·Memᴰ·tail}
+use mathlib.Core.List.{List, [], _∷_, List·Memᴰ}
 use mathlib.Core.Option.{Option, none, some}
 use native.Mathlib.Omega.{arith}
 use borrow.Author.Tests.{eqb-true, le-ltb}
 use lib.Dec.{eqb}
-use Rattle.lists.specs.Tests.{and-l, and-r, neither, clash}
+use Rattle.lists.specs.Tests.{and-l, neither, clash}
 use Rattle.lists.specs.Sets.{mem}
 use Rattle.model.specs.Objects.{Shape, okShape, isCell, hosted}
-use Rattle.model.specs.Entries.{Read, Held, Log}
+use Rattle.model.specs.Entries.{Read, Held, Claim, Log}
 use Rattle.model.specs.Slot.{logIn}
-use Rattle.model.specs.Table.{Holds, cellsOf, capacity, lookup, versionIn}
+use Rattle.model.specs.Table.{cellsOf, capacity, lookup, versionIn}
 use Rattle.model.specs.Answers.{done, refuse, firstOf, answer}
 use Rattle.model.specs.Append.{badRecord}
 use Rattle.model.specs.Replica.{plainly, readCell}
-use Rattle.model.specs.Run.{hasVersion, current}
+use Rattle.model.specs.Run.{current}
 use Rattle.model.specs.Claims.{isRefused, inLog, History, wholeLog, stood, ranTo, Passed, Carried, carried, Opening, fresh, atCheckpoint, opened, Play, played, plays, hosts, shown, cellsWritten, Fit, Shows, Demand3}
 use Rattle.laws.proofs.Tables.{length-cells}
 use Rattle.claims.proofs.Cells.{how-many}
 use Rattle.claims.proofs.Runs.{run, same-version}
-use Rattle.claims.proofs.Steps.{version-same}
+use Rattle.claims.proofs.Aborts.{current-at}
 use Rattle.claims.proofs.Audits.{Sound, audit-passed}
 use Rattle.claims.proofs.Openings.{hosted-none}
 use Rattle.claims.proofs.Histories.{run-at, Stood, stood-so}
 use Rattle.claims.proofs.Replicas.{Good, fresh-good, open-good, play-good, play-waiting, play-lacking}
-
--- ---- reads that are current
-
-current-at : (cells : Holds) (rs : List Read) (x : Read) → current cells rs ≡ true → List·Memᴰ x rs → versionIn (cells x.object x.key) ≡ x .version
-current-at cells (r ∷ rs) x h (List·Memᴰ·head e) =
-    rw e (eqb-true (versionIn (cells r.object r.key)) (r .version) (version-same (r .version) (cells r.object r.key) ∙ and-l (hasVersion (r .version) (cells r.object r.key)) (current cells rs) h))
-current-at cells (r ∷ rs) x h (List·Memᴰ·tail m) = current-at cells rs x (and-r (hasVersion (r .version) (cells r.object r.key)) (current cells rs) h) m
 
 -- ---- cell reading
 
@@ -97,12 +90,12 @@ module _ (sh : Shape) (shape : okShape sh ≡ true) (h : History) (room : ℕ) (
         let l = play-lacking sh shape (whole sh h) (at sh h p) (was (p .stoodAfter)) r (p .stop) g f e in
         rw (run-at sh shape h (played sh h r p .replica .position + 1) (l .next)) (l .many)
 
-    reread : (p : ℕ) (rs : List Read) (x : Read) (held : Option Held) → p < wholeLog sh h .tail → current (ranTo sh h p .cells) rs ≡ true
-        → List·Memᴰ x rs → shown sh r x.object x.key ≡ done held → versionIn held ≡ x .version → ranTo sh h p .cells x.object x.key ≡ held
-    reread p rs x held l cur m e v =
+    reread : (p : ℕ) (c : Claim) (x : Read) (held : Option Held) → p < wholeLog sh h .tail → current (ranTo sh h p .cells) (c .reads) ≡ true
+        → List·Memᴰ x (c .reads) → shown sh r x.object x.key ≡ done held → versionIn held ≡ x .version → ranTo sh h p .cells x.object x.key ≡ held
+    reread p c x held l cur m e v =
         let now : run (whole sh h) (r .replica .position) .cells x.object x.key ≡ held = read-back sh (whole sh h) r g (x .object) (x .key) held e in
         let then : ranTo sh h p ≡ run (whole sh h) p = run-at sh shape h p (omega arith) in
-        let w : versionIn (run (whole sh h) p .cells x.object x.key) ≡ x .version = current-at (run (whole sh h) p .cells) rs x (rw then at cur) m in
+        let w : versionIn (run (whole sh h) p .cells x.object x.key) ≡ x .version = current-at (run (whole sh h) p .cells) c x (rw then at cur) m in
         rw then (same-version (whole sh h) p (r .replica .position) (x .object) (x .key) (w ∙ sym v ∙ ap versionIn (sym now)) ∙ now)
 
     shows : Shows sh h r
@@ -113,7 +106,7 @@ module _ (sh : Shape) (shape : okShape sh ≡ true) (h : History) (room : ℕ) (
           ∙ ap (λ s. cellsWritten (sh .objects) (hosts sh r) (s .cells)) (sym position);
       waits = λ p f. play-waiting sh shape (whole sh h) (at sh h p) (was (p .stoodAfter)) r (p .stop) g f;
       lacks = lacking;
-      rereads = λ p n c x held l i cur m e v. reread p (c .reads) x held l cur m e v;
+      rereads = λ p n c x held l i cur m e v. reread p c x held l cur m e v;
     }
 
 -- what holds of a replica after its plays

@@ -20,11 +20,11 @@ use Rattle.model.specs.Append.{Request, entryOf}
 use Rattle.model.specs.Run.{Fed, start, accept, runAt}
 use Rattle.model.specs.Claims.{Lent, inLog, tailAfter, isRefused, appendTo, after, grown, feed, empty, History, wholeLog, stood, ranTo}
 use Rattle.laws.proofs.Agree.{Agree, fewer}
-use Rattle.laws.proofs.Refusals.{below-good}
-use Rattle.laws.proofs.Appends.{accepted, refused-same}
+use Rattle.laws.proofs.Appends.{accepted, refused-same, good-kept}
 use Rattle.claims.proofs.Runs.{run, run-start, count-run, run-agree, run-next}
+use Rattle.claims.proofs.KeepsGood.{grown-good, empty-good}
 use Rattle.claims.proofs.Steps.{TrueBelow}
-use Rattle.claims.proofs.Audits.{Sound, good-kept, decisions-true}
+use Rattle.claims.proofs.Audits.{Sound, decisions-true}
 
 -- ---- one append
 
@@ -34,7 +34,6 @@ record Grew (sh : Shape) (l : Lent) (q : Request) : Type 0 where
   size : length (after sh l q .bytes) ≡ length (l .bytes)
   below : Agree (inLog (after sh l q)) (inLog l) (l .tail)
   here : inLog (after sh l q) .entry (l .tail) ≡ entryOf q
-  good : lowestBad sh (inLog (after sh l q)) ≡ none
 
 data Turn (sh : Shape) (l : Lent) (q : Request) : Type 0 where
   kept : isRefused (appendTo sh l q .newTail) ≡ true → after sh l q ≡ l → Turn sh l q
@@ -45,17 +44,15 @@ record Longer (sh : Shape) (l m : Lent) : Type 0 where
   tails : l .tail ≤ m .tail
   size : length (m .bytes) ≡ length (l .bytes)
   agrees : Agree (inLog m) (inLog l) (l .tail)
-  good : lowestBad sh (inLog l) ≡ none → lowestBad sh (inLog m) ≡ none
 
 not-longer : (sh : Shape) (l : Lent) → Longer sh l l
-not-longer sh l = record { tails = omega arith; size = refl; agrees = λ o h. refl; good = λ g. g }
+not-longer sh l = record { tails = omega arith; size = refl; agrees = λ o h. refl }
 
 even-longer : (sh : Shape) (l m n : Lent) → Longer sh l m → Longer sh m n → Longer sh l n
 even-longer sh l m n a b = record {
   tails = omega (arith, a .tails, b .tails);
   size = b .size ∙ a .size;
   agrees = λ o h. b .agrees o (omega (arith, a .tails)) ∙ a .agrees o h;
-  good = λ g. b .good (a .good g);
 }
 
 module _ (sh : Shape) (shape : okShape sh ≡ true) where
@@ -66,7 +63,7 @@ module _ (sh : Shape) (shape : okShape sh ≡ true) where
       go (done t) e =
           let a = accepted sh (l .bytes) (l .tail) q t shape e in
           let n : after sh l q .tail ≡ l .tail + 1 = ap (tailAfter (l .tail)) e ∙ a .next in
-          grew (record { taken = ap isRefused e; longer = n; size = a .size; below = rw n (a .below); here = rw n (a .here); good = rw n (a .good) })
+          grew (record { taken = ap isRefused e; longer = n; size = a .size; below = rw n (a .below); here = rw n (a .here) })
       go (refused r) e =
           let b = refused-same sh (l .bytes) (l .tail) q r e in
           kept (ap isRefused e) (λ i. record { bytes = b i; tail = tailAfter (l .tail) (e i) })
@@ -76,7 +73,7 @@ module _ (sh : Shape) (shape : okShape sh ≡ true) where
     where
       go : Turn sh l q → Longer sh l (after sh l q)
       go (kept e s) = subst (λ x. Longer sh l x) (sym s) (not-longer sh l)
-      go (grew g) = record { tails = omega (arith, g .longer); size = g .size; agrees = g .below; good = λ x. g .good }
+      go (grew g) = record { tails = omega (arith, g .longer); size = g .size; agrees = g .below }
 
   grown-longer : (l : Lent) (qs : List Request) → Longer sh l (grown sh l qs)
   unfolding grown
@@ -170,6 +167,6 @@ stood-so sh shape h room n sound =
       tails = up .tails;
       agrees = agrees;
       frame = frame-below (inLog (stood sh h n)) (inLog (wholeLog sh h)) (sound .frame) (up .size) (up .tails);
-      good = grown-longer sh shape start (take n (h .requests)) .good (below-good sh (inLog start) (λ p l. absurd (omega arith)));
+      good = grown-good sh shape start (take n (h .requests)) (empty-good sh shape (h .bytes));
       truths = true-below sh (inLog (wholeLog sh h)) (inLog (stood sh h n)) (sound .good) (up .tails) agrees (decisions-true sh shape (inLog (wholeLog sh h)) room sound);
     }

@@ -18,10 +18,11 @@ use Rattle.model.specs.Table.{Cell, heldBy, lookup, cellOf, insertSaved, savedO
 use Rattle.model.specs.Play.{cellsIn}
 use Rattle.model.specs.Replica.{sameContent, sameSaved, auditPlay, asPlayed}
 use Rattle.laws.proofs.Items.{fitsCell, cell-small}
+use Rattle.laws.proofs.Appends.{good-kept}
 use Rattle.claims.proofs.Counts.{same, same-key, other-key}
 use Rattle.claims.proofs.Cells.{cond-twice, cond-swap, held-cell, distinct, owned, present-fits, Shown}
 use Rattle.claims.proofs.Runs.{cellsAfter, run, cells-run}
-use Rattle.claims.proofs.Audits.{Sound, good-kept, tail-small, audit-shows}
+use Rattle.claims.proofs.Audits.{Sound, tail-small, audit-shows}
 
 -- ---- the hosted set of one object
 

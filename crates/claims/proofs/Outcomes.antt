@@ -13,7 +13,7 @@ use Rattle.lists.specs.Rows.{getD-values-past}
 use Rattle.model.specs.Objects.{Shape, okShape, hosted}
 use Rattle.model.specs.Entries.{Claim, commit, blank, effect, Log}
 use Rattle.model.specs.Slot.{logIn}
-use Rattle.model.specs.Table.{Cell, cellsOf, capacity}
+use Rattle.model.specs.Table.{cellsOf, capacity}
 use Rattle.model.specs.Play.{Played, going, waits, lacks}
 use Rattle.model.specs.Answers.{Refusal}
 use Rattle.model.specs.Append.{Replica}

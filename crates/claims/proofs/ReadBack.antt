@@ -2,50 +2,38 @@
 -- header objects and items the laws of slots read back; and items that came as bytes, read and stored again, are those bytes.
 use mathlib.Core.Path.{_≡_, refl, ap, ap₂, sym, _∙_}
 use mathlib.Core.Bool.{Bool, true, false, cond, _||_}
-use mathlib.Core.List.{List, [], _∷_, _++_, map, append-nil}
+use mathlib.Core.List.{List, [], _∷_, _++_, append-nil}
 use mathlib.Core.Option.{Option, none, some}
-use Prim.Native.Nat.{ℕ, zero, suc, _+_, _*_, _/_, _%_, _^_, _≤_, _<_}
+use Prim.Native.Nat.{ℕ, _+_, _*_, _/_, _%_, _^_, _≤_, _<_}
 use native.Mathlib.Nat.{add-zero, zero-add}
 use native.Mathlib.Omega.{arith}
 use lib.Dec.{eqb, ltb}
 use lib.ListN.{length, take, drop}
-use lib.Seq.{take-add, take-all, drop-drop}
+use lib.Seq.{take-all}
 use borrow.Author.Tests.{ltb-true, lt-ltb, lt-leb, eqb-true, not-false}
-use Rattle.lists.specs.Tests.{ands, and-l, and-r, both, ors, clash}
-use Rattle.lists.specs.Sets.{all, insertOnce, ascendingSet, all-getD}
-use Rattle.lists.specs.Rows.{values, joined, length-joined, values-same, values-joined, joined-values}
-use Rattle.lists.specs.Bytes.{beAt, bytesOf, bytesOf-beAt, beAt-part}
+use Rattle.lists.specs.Tests.{ands, both, ors}
+use Rattle.lists.specs.Sets.{all, ascendingSet, all-insert}
+use Rattle.lists.specs.Rows.{values, joined, length-joined, map-values, values-same, values-joined, joined-values}
+use Rattle.lists.specs.Bytes.{beAt, beAt-part}
 use Rattle.lists.specs.Splice.{splice}
 use Rattle.model.specs.Objects.{Shape, isCell, isObject, okShape}
-use Rattle.model.specs.Entries.{Write, Entry, plain, numbered, commit, decision, checkpoint, blank, Log, Commit, effect, asideUnder, commitAt, ifSome, writtenObjects, writesOf, commitObjects, headerObjects}
+use Rattle.model.specs.Entries.{Write, Entry, plain, numbered, commit, decision, checkpoint, blank, Log, Commit, commitAt, ifSome, writtenObjects, writesOf, commitObjects, headerObjects}
 use Rattle.model.specs.Slot.{markOf, markUpdate, headerOf, writeBytes, writeAt, readBytes, readAt, itemBytes, itemCount, slotOf, updateIn, logIn, logOf}
 use Rattle.model.specs.Rules.{okWrite, okWrites, okEntry}
-use Rattle.model.specs.Answers.{Refusal, done, refuse, answer, frameAndEntries}
+use Rattle.model.specs.Answers.{done, refuse, answer, frameAndEntries}
 use Rattle.model.specs.Reading.{Header, headerAt, kindIn, infoIn, entryRefusal, entryCall, stretch, orEmpty, itemList}
-use Rattle.model.specs.Append.{Request, update, commits, decides, saves, itemsGiven, writesGiven, entryOf, notWhole, ownTests, appendRefusal, appendGiven, append}
-use Rattle.model.specs.Claims.{Lent, inLog, tailAfter, isRefused, appendTo, after, Bytes, givenItems, kindGiven, infoBack, itemsBack, headerObjectsIn, Accepted, Back, ReadsBack}
+use Rattle.model.specs.Append.{Request, update, commits, decides, saves, itemsGiven, writesGiven, entryOf, notWhole, ownTests, appendRefusal}
+use Rattle.model.specs.Claims.{Lent, inLog, tailAfter, appendTo, after, Bytes, givenItems, kindGiven, infoBack, itemsBack, headerObjectsIn, Accepted, Back, ReadsBack}
 use Rattle.laws.proofs.Items.{cell-small}
-use Rattle.laws.proofs.Slots.{Kept, length-header, header-object, headers-few, number-fits, items-few, object-small, slot-mark, slot-headers, slot-count, slot-number, slot-header, slot-items}
-use Rattle.laws.proofs.Refusals.{AllPass, all-pass, refuse-none, good-below}
-use Rattle.laws.proofs.Appends.{Accepted as Exit, accepted, good-obeys}
+use Rattle.laws.proofs.Slots.{Kept, writes-ok, length-header, header-object, headers-few, number-fits, items-few, object-small, slot-mark, slot-headers, slot-count, slot-number, slot-header, slot-items}
+use Rattle.laws.proofs.Tables.{word, next}
+use Rattle.laws.proofs.Refusals.{AllPass, all-pass, refuse-none}
+use Rattle.laws.proofs.Appends.{Accepted as Exit, accepted, good-kept, passed, wrote}
 
 -- ---- header objects have 31 bits
 
 abbrev pub fits31 : ℕ → Bool
 fits31 x = ltb x (2 ^ 31)
-
-all-append : {A : Type 0} (f : A → Bool) (xs ys : List A) → all f xs ≡ true → all f ys ≡ true → all f (xs ++ ys) ≡ true
-all-append f [] ys h k = k
-all-append f (x ∷ xs) ys h k = both (and-l (f x) (all f xs) h) (all-append f xs ys (and-r (f x) (all f xs) h) k)
-
-all-insert : (f : ℕ → Bool) (x : ℕ) (l : List ℕ) → f x ≡ true → all f l ≡ true → all f (insertOnce x l) ≡ true
-all-insert f x [] h k = both h k
-all-insert f x (y ∷ l) h k = by (ltb x y) (eqb x y) (all-insert f x l h (and-r (f y) (all f l) k))
-  where
-    by : (s t : Bool) → all f (insertOnce x l) ≡ true → all f (cond s (x ∷ y ∷ l) (cond t (y ∷ l) (y ∷ insertOnce x l))) ≡ true
-    by true t ih = both h k
-    by false true ih = k
-    by false false ih = both (and-l (f y) (all f l) k) ih
 
 module _ (sh : Shape) (shape : okShape sh ≡ true) where
   -- the set of the objects of writes that the rules allow
@@ -57,32 +45,15 @@ module _ (sh : Shape) (shape : okShape sh ≡ true) where
       all-insert fits31 (w .object) (ascendingSet (writtenObjects ws)) (lt-ltb (w .object) (2 ^ 31) (c .0)) (set-small ws (search ands))
 
   module _ (log : Log) where
-    writes-ok : (n p : ℕ) → Kept sh log p → all (okWrite sh) (writesOf log n p) ≡ true
-    unfolding writesOf okEntry okWrites
-    writes-ok n zero kept = refl
-    writes-ok n (suc p) kept = all-append (okWrite sh) (writesOf log n p) _ (writes-ok n p (λ o h. kept o (omega arith))) (by (log .entry p) (kept p (omega arith)))
-      where
-        under : (b : Bool) (ws : List Write) → all (okWrite sh) ws ≡ true → all (okWrite sh) (cond b ws []) ≡ true
-        under true ws h = h
-        under false ws h = refl
-
-        by : (e : Entry) → okEntry sh log p e ≡ true → all (okWrite sh) (asideUnder n (effect e)) ≡ true
-        by (plain ws) h = refl
-        by (numbered m ws) h = under (eqb m n) ws (search ands)
-        by (commit m c) h = refl
-        by (decision o v) h = refl
-        by (checkpoint o cs) h = refl
-        by blank h = refl
-
     pub headers-small : (p : ℕ) (e : Entry) → Kept sh log p → okEntry sh log p e ≡ true → all fits31 (headerObjects log p e) ≡ true
     unfolding headerObjects okEntry okWrites isObject
     headers-small p (plain ws) kept h = set-small ws (search ands)
     headers-small p (numbered n ws) kept h = set-small ws (search ands)
-    headers-small p (commit n c) kept h = set-small (writesOf log n p) (writes-ok n p kept)
+    headers-small p (commit n c) kept h = set-small (writesOf log n p) (writes-ok sh log n p kept)
     headers-small p (decision o v) kept h =
         let l : ltb o p ≡ true = search ands in
         let below : o < p = ltb-true o p l in
-        rw l (by (commitAt log o) (λ n. set-small (writesOf log n o) (writes-ok n o (λ i u. kept i (omega arith)))))
+        rw l (by (commitAt log o) (λ n. set-small (writesOf log n o) (writes-ok sh log n o (λ i u. kept i (omega arith)))))
       where
         by : (c : Option Commit) → ((n : ℕ) → all fits31 (commitObjects log o n) ≡ true) → all fits31 (ifSome c [] (λ c. commitObjects log o (c .number))) ≡ true
         by none f = refl
@@ -91,11 +62,6 @@ module _ (sh : Shape) (shape : okShape sh ≡ true) where
     headers-small p blank kept h = refl
 
 -- ---- a slot's header objects as they are read
-
-map-values : {A B : Type 0} (g : A → B) (f : ℕ → A) (i n : ℕ) → map g (values f i n) ≡ values (λ k. g (f k)) i n
-unfolding values
-map-values g f i zero = refl
-map-values g f i (suc n) = ap (λ t. g (f i) ∷ t) (map-values g f (suc i) n)
 
 module _ (log : Log) (p : ℕ) (e : Entry) (few : length (headerObjects log p e) ≤ 4) (small : all fits31 (headerObjects log p e) ≡ true) where
   headersOf : List ℕ
@@ -128,21 +94,13 @@ module _ (log : Log) (p : ℕ) (e : Entry) (few : length (headerObjects log p e)
 -- ---- items that came as bytes
 
 module _ (items : List ℕ) (bytes : Bytes items) where
-  word : (n i : ℕ) → i + n ≤ length items → bytesOf n (beAt n items i) ≡ take n (drop i items)
-  word n i h = bytesOf-beAt n items i (λ k l. ltb-true _ 256 (all-getD (λ x. ltb x 256) items (i + k) 0 bytes refl)) h
-
-  -- one number more
-  next : (m n i : ℕ) {xs : List ℕ} → i + m + n ≤ length items → xs ≡ take m (drop i items) → xs ++ bytesOf n (beAt n items (i + m)) ≡ take (m + n) (drop i items)
-  next m n i h e =
-      ap₂ (λ (a b : List ℕ). a ++ b) e (word n (i + m) h ∙ ap (take n) (sym (drop-drop m i items))) ∙ sym (take-add m n (drop i items))
-
   write-bytes : (i : ℕ) → i + 16 ≤ length items → writeBytes (writeAt items i) ≡ take 16 (drop i items)
   unfolding writeAt writeBytes
-  write-bytes i h = next 12 4 i (omega arith) (next 8 4 i (omega arith) (next 4 4 i (omega arith) (word 4 i (omega arith))))
+  write-bytes i h = next items bytes 12 4 i (omega arith) (next items bytes 8 4 i (omega arith) (next items bytes 4 4 i (omega arith) (word items bytes 4 i (omega arith))))
 
   read-bytes : (i : ℕ) → i + 16 ≤ length items → readBytes (readAt items i) ≡ take 16 (drop i items)
   unfolding readAt readBytes
-  read-bytes i h = next 8 8 i (omega arith) (next 4 4 i (omega arith) (word 4 i (omega arith)))
+  read-bytes i h = next items bytes 8 8 i (omega arith) (next items bytes 4 4 i (omega arith) (word items bytes 4 i (omega arith)))
 
   -- whole items, read and stored again
   module _ {A : Type 0} (put : A → List ℕ) (get : List ℕ → ℕ → A) (again : (i : ℕ) → i + 16 ≤ length items → put (get items i) ≡ take 16 (drop i items)) where
@@ -194,35 +152,29 @@ kind-marked s (saves r table o) e = rw e
 
 -- ---- what an accepted append left
 
-not-refused : (bytes s : List ℕ) (tail : ℕ) (x : Option Refusal) → isRefused (appendGiven bytes tail s x .newTail) ≡ false → x ≡ none
-not-refused bytes s tail none e = refl
-not-refused bytes s tail (some r) e = clash true refl e
-
 module _ (sh : Shape) (shape : okShape sh ≡ true) (l : Lent) (q : Request) (taken : Accepted sh l q) where
   -- the slot of the entry, over the log as it was
   abbrev pub itsSlot : List ℕ
   itsSlot = slotOf (inLog l) (l .tail) (entryOf q)
 
   passes : appendRefusal sh (inLog l) q ≡ none
-  unfolding append logIn
-  passes = not-refused (l .bytes) itsSlot (l .tail) (appendRefusal sh (inLog l) q) taken
+  passes = passed sh (l .bytes) (l .tail) q taken
 
   own-tests : AllPass (ownTests sh (inLog l) q)
   own-tests = all-pass (frameAndEntries sh (inLog l) ++ ownTests sh (inLog l) q) passes .1 .1
 
-  wrote : appendTo sh l q ≡ record { newTail = done (l .tail + 1); bytes = splice (l .bytes) (256 * l .tail) itsSlot }
-  unfolding append logIn
-  wrote = ap (λ x. appendGiven (l .bytes) (l .tail) itsSlot x) passes
+  left : appendTo sh l q ≡ record { newTail = done (l .tail + 1); bytes = splice (l .bytes) (256 * l .tail) itsSlot }
+  left = wrote sh (l .bytes) (l .tail) q passes
 
   pub left-bytes : after sh l q .bytes ≡ splice (l .bytes) (256 * l .tail) itsSlot
-  left-bytes = ap (λ a. a .bytes) wrote
+  left-bytes = ap (λ a. a .bytes) left
 
   exit : Exit sh (l .bytes) (l .tail) q (l .tail + 1) (appendTo sh l q .bytes)
-  exit = accepted sh (l .bytes) (l .tail) q (l .tail + 1) shape (ap (λ a. a .newTail) wrote)
+  exit = accepted sh (l .bytes) (l .tail) q (l .tail + 1) shape (ap (λ a. a .newTail) left)
 
   kept : Kept sh (inLog l) (l .tail)
   unfolding logIn
-  kept o h = good-obeys sh (inLog l) o (good-below sh (inLog l) (exit .was-good) o h)
+  kept = good-kept sh (inLog l) (exit .was-good)
 
   few-headers : length (headerObjects (inLog l) (l .tail) (entryOf q)) ≤ 4
   few-headers = headers-few sh (inLog l) shape (l .tail) (entryOf q) kept (exit .obeyed)
@@ -233,7 +185,7 @@ module _ (sh : Shape) (shape : okShape sh ≡ true) (l : Lent) (q : Request) (ta
   -- the calls on the log that was left
 
   new-log : inLog (after sh l q) ≡ logOf (appendTo sh l q .bytes) (l .tail + 1)
-  new-log = ap (λ a. logOf (appendTo sh l q .bytes) (tailAfter (l .tail) (a .newTail))) wrote
+  new-log = ap (λ a. logOf (appendTo sh l q .bytes) (tailAfter (l .tail) (a .newTail))) left
 
   nothing-refuses : entryRefusal sh (logOf (appendTo sh l q .bytes) (l .tail + 1)) (l .tail) ≡ none
   unfolding logIn

@@ -4,7 +4,7 @@ use Prim.Native.Nat.{ℕ, suc, _+_, _-_, _<_, _≤_}
 use mathlib.Core.Path.{_≡_, refl, ap, sym, _∙_, subst}
 use mathlib.Core.Bool.{Bool, true, false, _||_}
 use mathlib.Core.List.{List, [], _∷_, _++_}
-use mathlib.Core.Option.{Option, none, some}
+use mathlib.Core.Option.{Option, none, some, Option·some-injective}
 use native.Mathlib.Omega.{arith}
 use native.Mathlib.Numerals.{add-one}
 use borrow.Author.Tests.{ltb-false, leb-false}
@@ -21,15 +21,17 @@ use Rattle.model.specs.Answers.{Refusal, done, refuse, answer, firstOf, frameAn
 use Rattle.model.specs.Append.{badRecord, badReplica}
 use Rattle.model.specs.Replica.{Left, plainly, leftWith, openFresh, Checkpoint, checkpointIn, openRefusal, openGiven, openAt, badStop, playRefusal, leftBy, playGiven, playFrom, playCall}
 use Rattle.model.specs.Claims.{isRefused, Carried, carried, ifOpened, ifFresh, hosts, cellsWritten, Waiting}
+use Rattle.model.specs.Worked.{code}
 use Rattle.laws.proofs.Refusals.{not-none, all-pass, refuse-none}
 use Rattle.laws.proofs.Agree.{fewer}
 use Rattle.laws.proofs.Tables.{length-cells, cells-back}
 use Rattle.laws.proofs.Room.{play-fits, length-with}
+use Rattle.laws.proofs.Appends.{good-kept}
 use Rattle.claims.proofs.Cells.{Shown, shown-fits}
 use Rattle.claims.proofs.Runs.{run, run-agree}
 use Rattle.claims.proofs.Steps.{start-shown, trust, Ok, play-ok}
-use Rattle.claims.proofs.Waits.{refusalNumber, play-waits}
-use Rattle.claims.proofs.Audits.{Sound, good-kept, tail-small, placed}
+use Rattle.claims.proofs.Waits.{play-waits}
+use Rattle.claims.proofs.Audits.{Sound, tail-small, placed}
 use Rattle.claims.proofs.Openings.{hosted-one, loaded, checkpoint-shows, checkpoint-object}
 use Rattle.claims.proofs.Histories.{Stood}
 
@@ -48,9 +50,6 @@ left-good sh whole set p table cells room s l = record {
   fits = rw (length-with table cells room) room;
 }
 
-some-same : (x y : Carried) → some x ≡ some y → x ≡ y
-some-same x y e = cc
-
 -- ---- openings
 
 module _ (sh : Shape) (whole : Log) where
@@ -63,7 +62,7 @@ module _ (sh : Shape) (whole : Log) where
 
       go : (b : Bool) → ifFresh table (answer (refuse 10 b) (start .replica)) ≡ some r → Good sh whole r
       go true i = not-none r (sym i)
-      go false i = subst (Good sh whole) (some-same start r i) (record { inv = start-shown sh whole (hosted sh set); below = omega arith; fits = omega arith })
+      go false i = subst (Good sh whole) (Option·some-injective start r i) (record { inv = start-shown sh whole (hosted sh set); below = omega arith; fits = omega arith })
 
   -- an entry that is no checkpoint
   not-opened : (o : ℕ) (table : List ℕ) (r : Carried) (x : Option Refusal) → ifOpened (openGiven sh o table x none) ≡ some r → Good sh whole r
@@ -92,7 +91,7 @@ module _ (sh : Shape) (shape : okShape sh ≡ true) (whole : Log) (room : ℕ) (
       let k : okEntry sh whole o (checkpoint ob cs) ≡ true = rw e′ at (good-kept sh whole (sound .good) o l′) in
       let s : Shown sh (hosted sh (setOf sh ob)) (loaded ob cs) (run whole (o + 1) .cells) =
       rw (hosted-one sh ob (checkpoint-object sh whole o ob cs k), add-one o) (checkpoint-shows sh shape whole room sound o ob cs l′ e′) in
-      subst (Good sh whole) (some-same _ r i) (left-good sh whole (setOf sh ob) (o + 1) table (loaded ob cs) fit s (omega arith))
+      subst (Good sh whole) (Option·some-injective _ r i) (left-good sh whole (setOf sh ob) (o + 1) table (loaded ob cs) fit s (omega arith))
 
   pub open-good : (o : ℕ) (table : List ℕ) (r : Carried) → ifOpened (openAt sh log o table) ≡ some r → Good sh whole r
   unfolding openAt
@@ -174,7 +173,7 @@ module _ (sh : Shape) (shape : okShape sh ≡ true) (whole log : Log) (was : Sto
       go : (x : Played) → Ok sh shape log (hosts sh r) (capacity (r .table)) stop x → leftBy (r .replica .hosting) stop (r .table) x .answer ≡ plainly 13
           → Lacking sh whole r (leftBy (r .replica .hosting) stop (r .table) x)
       go (going u) i e = clash true refl (ap isRefused (sym e))
-      go (waits q u) i e = absurd (let n : 12 ≡ 13 = ap refusalNumber e in omega arith)
+      go (waits q u) i e = absurd (let n : 12 ≡ 13 = ap code e in omega arith)
       go (lacks q u) i e = record {
         next = omega (arith, i .0, to f, was .tails);
         many = rw (add-one q, ← run-same (suc q) (omega (arith, i .0, to f))) (i .2);

@@ -4,14 +4,15 @@ use Prim.Native.Nat.{ℕ, zero, suc, _+_}
 use mathlib.Core.Path.{_≡_, refl, ap, sym, _∙_}
 use mathlib.Core.Bool.{Bool, true, false, cond, _&&_}
 use mathlib.Core.List.{List, [], _∷_, _++_, append-nil}
-use mathlib.Core.Option.{Option, some}
+use mathlib.Core.Option.{Option, none, some}
 use native.Mathlib.Omega.{arith}
 use native.Mathlib.Numerals.{add-one}
+use borrow.Author.Tests.{eqb-true, eqb-false, eq-eqb, ne-eqb}
 use lib.Dec.{eqb}
 use Rattle.model.specs.Entries.{Write, Held, plain, numbered, Effect, writes, aside, tries, inert, effect, Log, asideUnder, writesOf, commitAt, ifSome}
 use Rattle.model.specs.Table.{Holds, versionIn}
 use Rattle.model.specs.Append.{Request, update, commits, decides, saves, writesGiven, entryOf}
-use Rattle.model.specs.Run.{Run, start, current, written, madeAll, setAside, accept}
+use Rattle.model.specs.Run.{Run, start, hasVersion, current, written, madeAll, setAside, accept}
 use Rattle.laws.proofs.Agree.{Agree, fewer}
 
 abbrev pub cellsAfter : ℕ → Run → Effect → Holds
@@ -71,6 +72,18 @@ run-agree log log′ (suc p) a = rw (run-agree log log′ p (fewer log log′ (s
 -- whether the commit record at p commits in the run
 abbrev pub commitsAt : Log → ℕ → Bool
 commitsAt log p = ifSome (commitAt log p) false (λ c. current (run log p .cells) (c .claim .reads))
+
+turned : (a b : ℕ) → eqb a b ≡ eqb b a
+turned a b = go (eqb a b) refl
+  where
+    go : (x : Bool) → eqb a b ≡ x → x ≡ eqb b a
+    go true e = sym (eq-eqb b a (sym (eqb-true a b e)))
+    go false e = sym (ne-eqb b a (λ q. eqb-false a b e (sym q)))
+
+-- the run's test of a read is the player's
+pub version-same : (v : ℕ) (x : Option Held) → eqb (versionIn x) v ≡ hasVersion v x
+version-same v none = turned 0 v
+version-same v (some h) = turned (h .version) v
 
 -- ---- fed a request
 

@@ -2,53 +2,30 @@
 -- a decision record says of a commit record is the run's outcome. By induction over the entries played.
 use Prim.Native.Nat.{ℕ, zero, suc, _+_, _<_, _^_}
 use mathlib.Core.Path.{_≡_, refl, ap, ap₂, sym, _∙_}
-use mathlib.Core.Bool.{Bool, true, false, cond, _&&_, _||_}
+use mathlib.Core.Bool.{Bool, true, false, cond, _&&_}
 use mathlib.Core.List.{List, [], _∷_}
 use mathlib.Core.Option.{Option, none, some}
 use native.Mathlib.Omega.{arith}
 use native.Mathlib.Nat.{add-suc, add-zero}
-use borrow.Author.Tests.{eqb-true, eqb-false, eq-eqb, ne-eqb, leb-false}
-use lib.Dec.{eqb, leb, ltb}
+use borrow.Author.Tests.{eqb-true, leb-false}
+use lib.Dec.{eqb, leb}
 use lib.ListN.{length}
 use Rattle.lists.specs.Tests.{and-l, and-r, or-l, or-r, clash}
-use Rattle.lists.specs.Sets.{all, mem, meets, within, insertOnce, ascendingSet}
+use Rattle.lists.specs.Sets.{all, mem, meets, within, ascendingSet, any-set}
 use Rattle.model.specs.Objects.{Shape, okShape}
-use Rattle.model.specs.Entries.{Write, Read, Held, Claim, Entry, plain, numbered, commit, decision, checkpoint, blank, Effect, writes, aside, tries, inert, effect, Log, writtenObjects, readObjects, writesOf, decides, decided, headerObjects}
+use Rattle.model.specs.Entries.{Write, Read, Claim, Entry, plain, numbered, commit, decision, checkpoint, blank, Effect, writes, aside, tries, inert, effect, Log, writtenObjects, readObjects, writesOf, decides, decided, headerObjects}
 use Rattle.model.specs.Rules.{okWrite}
 use Rattle.model.specs.Table.{Cell, Holds, lookup, apply, versionIn}
 use Rattle.model.specs.Play.{Played, going, waits, lacks, commitsOver, alone, saysCommit, outcome, make, finish, act, step, andThen, play}
-use Rattle.model.specs.Run.{hasVersion, current, madeAll}
+use Rattle.model.specs.Run.{current, madeAll}
 use Rattle.model.specs.Claims.{cellsWritten}
 use Rattle.claims.proofs.Cells.{Shown, nothing-shown, how-many, all-writes}
-use Rattle.claims.proofs.Runs.{cellsAfter, run, run-start, aside-run, cells-run, commitsAt}
+use Rattle.claims.proofs.Runs.{cellsAfter, run, run-start, aside-run, cells-run, commitsAt, version-same}
 
 pub start-shown : (sh : Shape) (log : Log) (set : List ℕ) → Shown sh set [] (run log 0 .cells)
 start-shown sh log set = rw (run-start log) (nothing-shown sh set)
 
 -- ---- entries of no hosted object
-
-meets-insert : (set : List ℕ) (x : ℕ) (l : List ℕ) → meets set (insertOnce x l) ≡ (mem x set || meets set l)
-meets-insert set x [] = refl
-meets-insert set x (y ∷ l) = go (ltb x y) (eqb x y) refl (meets-insert set x l)
-  where
-    swap : (a b c : Bool) → (a || (b || c)) ≡ (b || (a || c))
-    swap true true c = refl
-    swap true false c = refl
-    swap false b c = refl
-
-    twice : (a c : Bool) → (a || c) ≡ (a || (a || c))
-    twice true c = refl
-    twice false c = refl
-
-    go : (b e : Bool) → eqb x y ≡ e → meets set (insertOnce x l) ≡ (mem x set || meets set l)
-        → meets set (cond b (x ∷ y ∷ l) (cond e (y ∷ l) (y ∷ insertOnce x l))) ≡ (mem x set || (mem y set || meets set l))
-    go true e q ih = refl
-    go false true q ih = rw (eqb-true x y q) (twice (mem y set) (meets set l))
-    go false false q ih = rw ih (swap (mem y set) (mem x set) (meets set l))
-
-meets-set : (set xs : List ℕ) → meets set (ascendingSet xs) ≡ meets set xs
-meets-set set [] = refl
-meets-set set (x ∷ xs) = meets-insert set x (ascendingSet xs) ∙ rw (meets-set set xs)
 
 none-applied : (set : List ℕ) (v : ℕ) (ws : List Write) (cs : List Cell) → meets set (writtenObjects ws) ≡ false → apply set v ws cs ≡ cs
 unfolding apply
@@ -57,17 +34,6 @@ none-applied set v (w ∷ ws) cs h =
     rw (or-l (mem w.object set) (meets set (writtenObjects ws)) h) (none-applied set v ws cs (or-r (mem w.object set) (meets set (writtenObjects ws)) h))
 
 -- ---- the player's test of reads is the run's
-
-eqb-turned : (a b : ℕ) → eqb a b ≡ eqb b a
-eqb-turned a b = go (eqb a b) refl
-  where
-    go : (x : Bool) → eqb a b ≡ x → x ≡ eqb b a
-    go true e = sym (eq-eqb b a (sym (eqb-true a b e)))
-    go false e = sym (ne-eqb b a (λ q. eqb-false a b e (sym q)))
-
-pub version-same : (v : ℕ) (x : Option Held) → eqb (versionIn x) v ≡ hasVersion v x
-version-same v none = eqb-turned 0 v
-version-same v (some h) = eqb-turned (h .version) v
 
 pub reads-same : (sh : Shape) (set : List ℕ) (rs : List Read) (cs : List Cell) (cells : Holds) → Shown sh set cs cells
     → within set (readObjects (record { reads = rs })) ≡ true → commitsOver (lookup cs) (record { reads = rs }) ≡ current cells rs
@@ -155,7 +121,7 @@ module _ (sh : Shape) (shape : okShape sh ≡ true) (log : Log) (set : List ℕ)
 
     -- of which none is hosted
     passed : (ws : List Write) → all (okWrite sh) ws ≡ true → meets set (ascendingSet (writtenObjects ws)) ≡ false → Shown sh set cs (madeAll (p + 1) ws (run log p .cells))
-    passed ws ok m = rw (none-applied set (p + 1) ws cs (sym (meets-set set (writtenObjects ws)) ∙ m)) at (made ws ok)
+    passed ws ok m = rw (none-applied set (p + 1) ws cs (sym (any-set (λ x. mem x set) (writtenObjects ws)) ∙ m)) at (made ws ok)
 
     after : (e : Effect) → effect (log .entry p) ≡ e → (cs′ : List Cell) → Shown sh set cs′ (cellsAfter (p + 1) (run log p) e) → Inv (suc p) cs′
     after e i cs′ s = rw (cells-run log p, i) s

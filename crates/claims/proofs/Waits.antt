@@ -15,13 +15,9 @@ use Rattle.lists.specs.Sets.{meets}
 use Rattle.model.specs.Entries.{Write, Commit, Entry, plain, numbered, commit, decision, checkpoint, blank, effect, Log, writesOf, commitIn, commitObjects, ifSome, isNone, decided, headerObjects}
 use Rattle.model.specs.Table.{Cell, lookup, apply}
 use Rattle.model.specs.Play.{Played, going, waits, lacks, commitsOver, alone, saysCommit, make, finish, act, step, andThen, play}
-use Rattle.model.specs.Answers.{Answer, done, refused}
 use Rattle.model.specs.Replica.{plainly, leftBy}
 use Rattle.model.specs.Claims.{blocked, Waiting, isRefused}
-
-abbrev pub refusalNumber : Answer (Unit {0}) → ℕ
-refusalNumber (done a) = 0
-refusalNumber (refused r) = r .number
+use Rattle.model.specs.Worked.{code}
 
 -- what a step at p says of whether the entry there is blocked
 abbrev StepWait : ℕ → Bool → Played → Type 0
@@ -134,4 +130,4 @@ module _ (log : Log) (set : List ℕ) (room : ℕ) where
       }
         where
           thirteen : plainly 13 ≡ plainly 12 → (q < stop) × (blocked log set q ≡ true)
-          thirteen e = absurd (let n : 13 ≡ 12 = ap refusalNumber e in omega arith)
+          thirteen e = absurd (let n : 13 ≡ 12 = ap code e in omega arith)

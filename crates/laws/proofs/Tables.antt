@@ -37,11 +37,12 @@ module _ (table : List ℕ) (bytes : all (λ x. ltb x 256) table ≡ true) where
   small : (k : ℕ) → getD table k 0 < 256
   small k = ltb-true (getD table k 0) 256 (all-getD (λ x. ltb x 256) table k 0 bytes refl)
 
-  word : (n i : ℕ) → i + n ≤ length table → bytesOf n (beAt n table i) ≡ take n (drop i table)
+  -- a number read and stored again
+  pub word : (n i : ℕ) → i + n ≤ length table → bytesOf n (beAt n table i) ≡ take n (drop i table)
   word n i h = bytesOf-beAt n table i (λ k l. small (i + k)) h
 
   -- one number more
-  next : (m n i : ℕ) {xs : List ℕ} → i + m + n ≤ length table → xs ≡ take m (drop i table) → xs ++ bytesOf n (beAt n table (i + m)) ≡ take (m + n) (drop i table)
+  pub next : (m n i : ℕ) {xs : List ℕ} → i + m + n ≤ length table → xs ≡ take m (drop i table) → xs ++ bytesOf n (beAt n table (i + m)) ≡ take (m + n) (drop i table)
   next m n i h e =
       ap₂ (λ (a b : List ℕ). a ++ b) e (word n (i + m) h ∙ ap (take n) (sym (drop-drop m i table))) ∙ sym (take-add m n (drop i table))
 

@@ -1,8 +1,8 @@
 -- Lists of values stored one after the other in stretches of one width: how they are read and written.
 use mathlib.Core.Path.{_≡_, refl, ap, ap₂, sym, _∙_}
-use mathlib.Core.Bool.{Bool, true, false, _&&_}
-use mathlib.Core.List.{List, [], _∷_, _++_, append-assoc}
-use Prim.Native.Nat.{ℕ, zero, suc, _+_, _-_, _*_, _≤_, _<_}
+use mathlib.Core.Bool.{Bool, true}
+use mathlib.Core.List.{List, [], _∷_, _++_, map, append-assoc}
+use Prim.Native.Nat.{ℕ, zero, suc, _+_, _*_, _≤_, _<_}
 use native.Mathlib.Nat.{add-zero, mul-zero, mul-suc}
 use native.Mathlib.Omega.{arith}
 use lib.ListN.{length, getD, take, drop, length-append, List·getD-eq-default}
@@ -46,6 +46,11 @@ module _ {A : Type 0} where
   values-same f g i (suc n) h =
       ap₂ (λ (x : A) (xs : List A). x ∷ xs) (h i (omega arith) (omega arith))
       (values-same f g (suc i) n (λ k l m. h k (omega arith) (omega arith)))
+
+pub map-values : {A B : Type 0} (g : A → B) (f : ℕ → A) (i n : ℕ) → map g (values f i n) ≡ values (λ k. g (f k)) i n
+unfolding values
+map-values g f i zero = refl
+map-values g f i (suc n) = ap (λ t. g (f i) ∷ t) (map-values g f (suc i) n)
 
 -- ---- values stored in stretches of w bytes each
 

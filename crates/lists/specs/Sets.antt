@@ -1,8 +1,8 @@
 -- Tests over lists, and sets of numbers kept as lists.
-use mathlib.Core.Path.{_≡_, refl, ap, ap₂, sym, _∙_}
-use mathlib.Core.Bool.{Bool, true, false, cond, not, _&&_, _||_}
+use mathlib.Core.Path.{_≡_, refl, ap, _∙_}
+use mathlib.Core.Bool.{Bool, true, false, cond, _&&_, _||_}
 use mathlib.Core.List.{List, [], _∷_, _++_}
-use Prim.Native.Nat.{ℕ, zero, suc, _+_, _≤_, _<_}
+use Prim.Native.Nat.{ℕ, zero, suc}
 use native.Mathlib.Omega.{arith}
 use lib.Dec.{eqb, ltb}
 use lib.ListN.{getD}
@@ -63,6 +63,10 @@ module _ {A : Type 0} where
   all-weaken f g (x ∷ xs) h e =
       both (h x (and-l (f x) (all f xs) e)) (all-weaken f g xs h (and-r (f x) (all f xs) e))
 
+  pub all-append : (f : A → Bool) (xs ys : List A) → all f xs ≡ true → all f ys ≡ true → all f (xs ++ ys) ≡ true
+  all-append f [] ys h k = k
+  all-append f (x ∷ xs) ys h k = both (and-l (f x) (all f xs) h) (all-append f xs ys (and-r (f x) (all f xs) h) k)
+
 -- ---- laws of ascending lists
 
 module _ {A : Type 0} (before : A → A → Bool) where
@@ -113,11 +117,12 @@ pub ascending-set : (l : List ℕ) → ascending ltb (ascendingSet l) ≡ true
 ascending-set [] = refl
 ascending-set (x ∷ l) = ascending-insert x (ascendingSet l) (ascending-set l)
 
-pub mem-insert : (y x : ℕ) (l : List ℕ) → mem y (insertOnce x l) ≡ (eqb x y || mem y l)
-mem-insert y x [] = refl
-mem-insert y x (z ∷ l) = go (ltb x z) (eqb x z) refl (mem-insert y x l)
+-- a test that some element passes, or each
+pub any-insert : (f : ℕ → Bool) (x : ℕ) (l : List ℕ) → any f (insertOnce x l) ≡ (f x || any f l)
+any-insert f x [] = refl
+any-insert f x (z ∷ l) = go (ltb x z) (eqb x z) refl (any-insert f x l)
   where
-    same : (b c : Bool) → (b || (b || c)) ≡ (b || c)
+    same : (b c : Bool) → (b || c) ≡ (b || (b || c))
     same true c = refl
     same false c = refl
 
@@ -126,13 +131,28 @@ mem-insert y x (z ∷ l) = go (ltb x z) (eqb x z) refl (mem-insert y x l)
     swap true false c = refl
     swap false b c = refl
 
-    go : (b c : Bool) → eqb x z ≡ c → mem y (insertOnce x l) ≡ (eqb x y || mem y l)
-        → mem y (cond b (x ∷ z ∷ l) (cond c (z ∷ l) (z ∷ insertOnce x l))) ≡ (eqb x y || (eqb z y || mem y l))
+    go : (b c : Bool) → eqb x z ≡ c → any f (insertOnce x l) ≡ (f x || any f l)
+        → any f (cond b (x ∷ z ∷ l) (cond c (z ∷ l) (z ∷ insertOnce x l))) ≡ (f x || (f z || any f l))
     go true c e ih = refl
-    go false true e ih = rw (eqb-true x z e) (sym (same (eqb z y) (mem y l)))
-    go false false e ih = ap (λ (t : Bool). eqb z y || t) ih ∙ swap (eqb z y) (eqb x y) (mem y l)
+    go false true e ih = rw (eqb-true x z e) (same (f z) (any f l))
+    go false false e ih = ap (λ (t : Bool). f z || t) ih ∙ swap (f z) (f x) (any f l)
 
--- and holds the same numbers
+pub any-set : (f : ℕ → Bool) (l : List ℕ) → any f (ascendingSet l) ≡ any f l
+any-set f [] = refl
+any-set f (x ∷ l) = any-insert f x (ascendingSet l) ∙ ap (λ (t : Bool). f x || t) (any-set f l)
+
+pub all-insert : (f : ℕ → Bool) (x : ℕ) (l : List ℕ) → f x ≡ true → all f l ≡ true → all f (insertOnce x l) ≡ true
+all-insert f x [] h k = both h k
+all-insert f x (y ∷ l) h k = go (ltb x y) (eqb x y) (all-insert f x l h (and-r (f y) (all f l) k))
+  where
+    go : (b c : Bool) → all f (insertOnce x l) ≡ true → all f (cond b (x ∷ y ∷ l) (cond c (y ∷ l) (y ∷ insertOnce x l))) ≡ true
+    go true c ih = both h k
+    go false true ih = k
+    go false false ih = both (and-l (f y) (all f l) k) ih
+
+-- the set of a list holds the same numbers
+pub mem-insert : (y x : ℕ) (l : List ℕ) → mem y (insertOnce x l) ≡ (eqb x y || mem y l)
+mem-insert y x l = any-insert (λ z. eqb z y) x l
+
 pub mem-set : (y : ℕ) (l : List ℕ) → mem y (ascendingSet l) ≡ mem y l
-mem-set y [] = refl
-mem-set y (x ∷ l) = mem-insert y x (ascendingSet l) ∙ ap (λ (t : Bool). eqb x y || t) (mem-set y l)
+mem-set y l = any-set (λ z. eqb z y) l
