@@ -1,5 +1,6 @@
--- Demands 2 and 3 computed on small logs. Each sample also says what its calls answer, so that a definition which refuses or
--- waits always is seen too. An edit of a definition that turns a sample false is wrong, and not only unfit for a proof.
+-- Demands 2 and 3 as tests that are computed on small logs. Each sample also says what its calls answer, so that a definition
+-- which refuses or waits always is seen too. An edit of a definition that turns a sample false is wrong, and not only unfit
+-- for a proof. The samples here show the mistakes that the worked logs do not; crate `samples` has more.
 use Prim.Native.Nat.{ℕ, zero, suc, _+_, _*_}
 use mathlib.Core.Path.{_≡_, refl}
 use mathlib.Core.Bool.{Bool, true, false, cond, not, _&&_, _||_, Bool·beq}
@@ -29,7 +30,7 @@ use Rattle.model.specs.Claims.{Lent, inLog, empty, after, grown, feed, H
 use Rattle.model.specs.Worked.{code, put, remove, read, cell}
 
 -- the eight objects with fewer keys, so that every cell can be looked at
-abbrev obj : ℕ → ObjectKind → ℕ → Bool → Object
+abbrev pub obj : ℕ → ObjectKind → ℕ → Bool → Object
 obj i t h m = record { id = i; kind = t; highest = h; marked = m }
 
 abbrev pub small : Shape
@@ -58,60 +59,60 @@ pub record Sample : Type 0 where
   pub opening : Opening
   pub turns : List Turn
 
-abbrev tells : {A : Type 0} → Answer A → Option ℕ
+abbrev pub tells : {A : Type 0} → Answer A → Option ℕ
 tells (done a) = none
 tells (refused r) = r .offset
 
-abbrev given : {A : Type 0} → Answer A → A → A
+abbrev pub given : {A : Type 0} → Answer A → A → A
 given (done a) d = a
 given (refused r) d = d
 
-abbrev sameHeld : Option Held → Option Held → Bool
+abbrev pub sameHeld : Option Held → Option Held → Bool
 sameHeld none none = true
 sameHeld none (some h) = false
 sameHeld (some g) none = false
 sameHeld (some g) (some h) = eqb g.version h.version && sameContent g.content h.content
 
-abbrev isShown : Answer (Option Held) → Option Held → Bool
+abbrev pub isShown : Answer (Option Held) → Option Held → Bool
 isShown (done x) y = sameHeld x y
 isShown (refused r) y = false
 
-abbrev below : (ℕ → Bool) → ℕ → Bool
+abbrev pub below : (ℕ → Bool) → ℕ → Bool
 below f zero = true
 below f (suc n) = below f n && f n
 
 -- a test of every cell of a set's objects
-abbrev eachCell : List Object → List ℕ → (ℕ → ℕ → Bool) → Bool
+abbrev pub eachCell : List Object → List ℕ → (ℕ → ℕ → Bool) → Bool
 eachCell [] set f = true
 eachCell (b ∷ bs) set f = (not (mem b.id set) || below (f (b .id)) (suc b.highest)) && eachCell bs set f
 
 -- ReadsBack for each append of a list
-abbrev isInfo : Answer Info → ℕ → ℕ → List ℕ → Bool
+abbrev pub isInfo : Answer Info → ℕ → ℕ → List ℕ → Bool
 isInfo (done i) k n os = eqb i.kind k && eqb i.number n && eqList (headerObjectsIn i) os
 isInfo (refused r) k n os = false
 
-abbrev backHolds : Lent → Request → Lent → Bool
+abbrev pub backHolds : Lent → Request → Lent → Bool
 backHolds l q new =
     let log = inLog new in
     isInfo (entryCall small log (l .tail)) (kindGiven q) (numberOf (inLog l) (l .tail) (entryOf q)) (headerObjects (inLog l) (l .tail) (entryOf q))
     && eqList (itemList small log (l .tail)) (givenItems q)
 
-abbrev backsHold : Lent → List Request → Bool
+abbrev pub backsHold : Lent → List Request → Bool
 backsHold l [] = true
 backsHold l (q ∷ qs) = let new = after small l q in (eqb (new .tail) (l .tail) || backHolds l q new) && backsHold new qs
 
 -- Shows, with the next play of the sample
-abbrev waitsHold : Log → List ℕ → ℕ → ℕ → Left → Bool
+abbrev pub waitsHold : Log → List ℕ → ℕ → ℕ → Left → Bool
 waitsHold log set from stop out =
     let p = out .replica .position in
     Bool·beq (eqb (code (out .answer)) 12) (ltb p stop && blocked log set p)
     && below (λ q. ltb q from || not (blocked log set q)) p
     && leb from p && leb p stop && (not (eqb (code (out .answer)) 0) || eqb p stop)
 
-abbrev lacksHold : ℕ → ℕ → Left → Bool
+abbrev pub lacksHold : ℕ → ℕ → Left → Bool
 lacksHold room wanted out = not (eqb (code (out .answer)) 13) || ltb room wanted
 
-abbrev rereadHolds : Carried → Holds → Read → Bool
+abbrev pub rereadHolds : Carried → Holds → Read → Bool
 rereadHolds r cells x = same (shown small r x.object x.key)
   where
     same : Answer (Option Held) → Bool
@@ -119,12 +120,12 @@ rereadHolds r cells x = same (shown small r x.object x.key)
     same (refused e) = true
 
 -- (the run at count p is `ran p`)
-abbrev rereadsHold : (ℕ → Run) → Log → Carried → Bool
+abbrev pub rereadsHold : (ℕ → Run) → Log → Carried → Bool
 rereadsHold ran log r = below (λ p. ifSome (commitAt log p) true
     (λ c. not (current (ran p .cells) (c .claim .reads)) || all (rereadHolds r (ran p .cells)) (c .claim .reads))) (log .tail)
 
 -- SameOutcomes at the replica's position
-abbrev outcomeHolds : (ℕ → Run) → Log → Carried → Bool
+abbrev pub outcomeHolds : (ℕ → Run) → Log → Carried → Bool
 outcomeHolds ran log r =
     let p = r .replica .position in
     ifSome (commitAt log p) true (λ c. not (meets (hosts small r) (commitObjects log p (c .number)))
@@ -132,7 +133,7 @@ outcomeHolds ran log r =
     (λ b. Bool·beq b (current (ran p .cells) (c .claim .reads))))
 
 -- the parts of Shows that speak of the replica as it is
-abbrev cellsHold : (ℕ → Run) → Log → Carried → Bool
+abbrev pub cellsHold : (ℕ → Run) → Log → Carried → Bool
 cellsHold ran whole r =
     let run = ran (r .replica .position) in
     eachCell (small .objects) (hosts small r) (λ o k. isShown (shown small r o k) (run .cells o k))
@@ -140,14 +141,14 @@ cellsHold ran whole r =
     && rereadsHold ran whole r
 
 -- the parts that speak of its next play, and SameOutcomes
-abbrev nextHolds : (ℕ → Run) → Log → Carried → ℕ → Left → Bool
+abbrev pub nextHolds : (ℕ → Run) → Log → Carried → ℕ → Left → Bool
 nextHolds ran log r stop out =
     waitsHold log (hosts small r) (r .replica .position) stop out
     && lacksHold (capacity (r .table)) (cellsWritten (small .objects) (hosts small r) (ran (out .replica .position + 1) .cells)) out
     && outcomeHolds ran log r
 
 -- all of it before each play and after the last
-turnsHold : History → (ℕ → Run) → Log → Carried → List Turn → Bool
+unfoldable pub turnsHold : History → (ℕ → Run) → Log → Carried → List Turn → Bool
 turnsHold h ran whole r [] = cellsHold ran whole r
 turnsHold h ran whole r (t ∷ ts) =
     let log = inLog (stood small h (t .stoodAfter)) in
@@ -156,18 +157,18 @@ turnsHold h ran whole r (t ∷ ts) =
     && cellsHold ran whole r && nextHolds ran log r (t .stop) out
     && turnsHold h ran whole (carried out) ts
 
-abbrev showsHold : Sample → History → Log → Option Carried → Bool
+abbrev pub showsHold : Sample → History → Log → Option Carried → Bool
 showsHold m h whole none = isEmpty (m .turns)
 showsHold m h whole (some r) = let fed = feed small (empty (h .bytes)) (h .requests) in turnsHold h (λ p. runAt p start fed) whole r (m .turns)
 
-abbrev sameOffset : Option ℕ → Option ℕ → Bool
+abbrev pub sameOffset : Option ℕ → Option ℕ → Bool
 sameOffset x y = sameContent x y
 
 -- the history of a sample, in five slots of junk
-abbrev historyOf : Sample → History
+abbrev pub historyOf : Sample → History
 historyOf m = record { bytes = replicate (256 * 5) 7; requests = m .requests }
 
-pub sampleHolds : Sample → Bool
+unfoldable pub sampleHolds : Sample → Bool
 unfolding turnsHold
 sampleHolds m =
     let h = historyOf m in
@@ -179,125 +180,65 @@ sampleHolds m =
     && sameOffset (given (owed small log) none) (m .owes)
     && (not (eqb (m .audits) 0) || showsHold m h log (opened small h (m .opening)))
 
-abbrev to : ℕ → ℕ → Turn
+abbrev pub to : ℕ → ℕ → Turn
 to n s = record { stoodAfter = n; stop = s; answers = 0; position = s }
 
-abbrev but : ℕ → ℕ → ℕ → ℕ → Turn
+abbrev pub but : ℕ → ℕ → ℕ → ℕ → Turn
 but n s c p = record { stoodAfter = n; stop = s; answers = c; position = p }
 
 -- tables with room for five cells, and for one
-abbrev five : List ℕ
+abbrev pub five : List ℕ
 five = replicate 120 7
 
-abbrev one : List ℕ
+abbrev pub one : List ℕ
 one = replicate 24 7
 
 -- hosting everything; object 2 alone; object 5 alone
-abbrev all8 : Opening
+abbrev pub all8 : Opening
 all8 = fresh 255 five
 
-abbrev only2 : Opening
+abbrev pub only2 : Opening
 only2 = fresh 2 five
 
-abbrev only5 : Opening
+abbrev pub only5 : Opening
 only5 = fresh 16 five
 
 -- a checkpoint of object 2 by a replica of object 2 at this position, with these cells
-abbrev save : ℕ → List Cell → Request
+abbrev pub save : ℕ → List Cell → Request
 save p cs = saves (record { hosting = 2; position = p; count = length cs }) (joined cellBytes cs ++ replicate 48 7) 2
 
-abbrev both : List ℕ
+abbrev pub both : List ℕ
 both = put 2 7 1 ++ put 5 1 2
 
 -- object 5 depends on what was read of object 2
-abbrev across : List Request
+abbrev pub across : List Request
 across = update 9 both ∷ commits 9 (read 2 7 0) ∷ []
 
 -- a log that the audit passes and that owes nothing, with an opening and plays
-abbrev passes : List Request → ℕ → Opening → List Turn → Sample
+abbrev pub passes : List Request → ℕ → Opening → List Turn → Sample
 passes qs n o ts = record { requests = qs; tail = n; audits = 0; auditTells = none; owes = none; opening = o; turns = ts }
 
 -- a log with a false record
-abbrev fails : List Request → ℕ → ℕ → Sample
+abbrev pub fails : List Request → ℕ → ℕ → Sample
 fails qs n f = record { requests = qs; tail = n; audits = 11; auditTells = some f; owes = none; opening = only5; turns = [] }
 
 -- a log that owes a decision, played whole
-abbrev owing : List Request → ℕ → ℕ → Sample
+abbrev pub owing : List Request → ℕ → ℕ → Sample
 owing qs n o = record { requests = qs; tail = n; audits = 0; auditTells = none; owes = some o; opening = all8; turns = to (length qs) n ∷ [] }
 
-abbrev bench : List Request
-bench = update 0 (put 2 7 43) ∷ update 9 (put 2 7 42) ∷ update 10 (put 2 7 40) ∷ commits 9 (read 2 7 1) ∷ commits 10 (read 2 7 1) ∷ []
-
--- Outcomes, versions and waiting.
-abbrev pub playing : List Sample
-playing =
-    -- two transactions that conflict, played in instalments
-    passes bench 5 all8 (to 5 3 ∷ to 5 5 ∷ [])
-    -- a commit that object 5's replica cannot decide alone: it waits, and goes on by the decision; object 2's decides it alone
-    ∷ passes (across ++ (decides 1 1 ∷ [])) 3 only5 (but 2 2 12 1 ∷ to 3 3 ∷ [])
-    ∷ passes (across ++ (decides 1 1 ∷ [])) 3 only2 (to 2 2 ∷ [])
-    -- a stale read: an abort by decision
-    ∷ passes (update 0 (put 2 7 5) ∷ across ++ (decides 2 2 ∷ [])) 4 only5 (to 4 4 ∷ [])
-    -- updates set aside before a later instalment
-    ∷ passes (update 9 (put 2 7 1) ∷ update 0 (put 2 8 1) ∷ commits 9 [] ∷ []) 3 all8 (to 3 2 ∷ to 3 3 ∷ [])
-    -- an aborted transaction leaves the version that the next commit reads
-    ∷ passes (update 0 (put 2 7 43) ∷ update 9 (put 2 7 42) ∷ commits 9 (read 2 7 0) ∷ update 10 (put 2 8 1) ∷ commits 10 (read 2 7 1) ∷ []) 5 all8 (to 5 5 ∷ [])
-    -- the version is the commit record's, and is read by the next commit
-    ∷ passes (update 9 (put 2 7 1) ∷ update 0 (put 5 1 1) ∷ commits 9 [] ∷ update 10 (put 5 2 1) ∷ commits 10 (read 2 7 3) ∷ []) 5 all8 (to 5 5 ∷ [])
-    -- no room for the second cell: the first entry shows, and nothing of the second
-    ∷ passes (update 0 (put 2 7 1) ∷ update 0 (put 2 7 2 ++ put 2 8 3) ∷ []) 2 (fresh 2 one) (but 2 2 13 1 ∷ [])
-    ∷ []
-
--- Openings at a checkpoint, and false records.
-abbrev pub checkpoints : List Sample
-checkpoints =
-    -- an update set aside before the checkpoint
+-- The mistakes that the worked logs do not show.
+abbrev pub mistakes : List Sample
+mistakes =
+    -- an update set aside before the checkpoint at which a replica opens, and before a later instalment
     passes (update 9 (put 2 7 1) ∷ save 1 [] ∷ commits 9 [] ∷ []) 3 (atCheckpoint 3 1 five) (to 3 3 ∷ [])
-    -- a removed cell has a version, and is saved and opened as removed; cells in key order
-    ∷ passes (update 0 (put 2 8 5 ++ put 2 7 4) ∷ update 0 (remove 2 7) ∷ save 2 (cell 2 8 (some 5) 1 ∷ cell 2 7 none 2 ∷ [])
-    ∷ update 9 (put 2 7 6) ∷ commits 9 (read 2 7 2) ∷ []) 5 (atCheckpoint 3 2 five) (to 5 5 ∷ [])
-    -- refused openings: no checkpoint, no room
-    ∷ passes (update 0 (put 2 7 4) ∷ []) 1 (atCheckpoint 1 0 five) []
-    ∷ passes (update 0 (put 2 7 4) ∷ save 1 (cell 2 7 (some 4) 1 ∷ []) ∷ []) 2 (atCheckpoint 2 1 []) []
-    -- false: a decision for abort, one for commit; a checkpoint's value, its version, a cell missing; the lowest of two
+    ∷ passes (update 9 (put 2 7 1) ∷ update 0 (put 2 8 1) ∷ commits 9 [] ∷ []) 3 all8 (to 3 2 ∷ to 3 3 ∷ [])
+    -- false records at two offsets
     ∷ fails (across ++ (decides 1 2 ∷ [])) 3 2
-    ∷ fails (update 0 (put 2 7 5) ∷ across ++ (decides 2 1 ∷ [])) 4 3
     ∷ fails (update 0 (put 2 7 4) ∷ save 1 (cell 2 7 (some 5) 1 ∷ []) ∷ []) 2 1
-    ∷ fails (update 0 (put 2 8 4) ∷ update 0 (put 2 7 4) ∷ save 2 (cell 2 7 (some 4) 1 ∷ cell 2 8 (some 4) 1 ∷ []) ∷ []) 3 2
-    ∷ fails (update 0 (put 2 8 4) ∷ save 1 [] ∷ across ++ (decides 3 2 ∷ [])) 5 1
+    -- a decision owed
+    ∷ owing (update 9 (put 2 7 1) ∷ commits 9 (read 3 1 0) ∷ []) 2 1
     ∷ []
 
--- Owed decisions, refused appends.
-abbrev pub refusing : List Sample
-refusing =
-    -- a commit that reads a marked object owes a decision; the lowest; not once it is paid; not for an unmarked object
-    owing (update 9 (put 2 7 1) ∷ commits 9 (read 3 1 0) ∷ update 10 (put 2 7 1) ∷ commits 10 (read 4 1 0) ∷ []) 4 1
-    ∷ owing (update 9 (put 2 7 1) ∷ commits 9 (read 3 1 0) ∷ update 10 (put 2 7 1) ∷ commits 10 (read 4 1 0) ∷ decides 1 1 ∷ []) 5 3
-    ∷ passes (update 9 (put 2 7 1) ∷ commits 9 (read 5 1 0) ∷ []) 2 all8 (to 2 1 ∷ [])
-    -- refused: a key too high, a fifth object, a commit without update, a closed number, no commit record, a second decision
-    ∷ passes (update 0 (put 2 10 1) ∷ update 9 (put 1 0 1 ++ put 2 0 1 ++ put 3 0 1 ++ put 4 0 1) ∷ update 9 (put 5 0 1) ∷ commits 8 [] ∷ commits 9 []
-    ∷ update 9 (put 1 0 1) ∷ decides 0 1 ∷ decides 1 1 ∷ decides 1 1 ∷ []) 3 all8 (to 9 3 ∷ [])
-    -- a full log; a later write to the same cell wins; the same key of two objects; a remove of a cell never written
-    ∷ passes (update 0 (put 2 1 1 ++ put 2 1 2) ∷ update 0 (put 5 1 1) ∷ update 0 (remove 5 2) ∷ update 0 (put 6 0 1) ∷ update 0 (put 6 0 1)
-    ∷ update 0 (put 2 1 4) ∷ []) 5 all8 (to 6 5 ∷ [])
-    ∷ []
-
--- What was appended reads back: an entry of each kind.
-abbrev pub written : List Request
-written = update 0 (put 2 7 4 ++ remove 5 1) ∷ update 9 both ∷ commits 9 (read 1 1 0 ++ read 2 7 1) ∷ decides 2 1 ∷ save 4 (cell 2 7 (some 1) 3 ∷ []) ∷ []
-
-pub written-back : backsHold (empty (replicate (256 * 5) 7)) written ≡ true
-unfolding beAt bytesOf splice values joined first firstFrom picks eqList writesOf closed decided headerObjects numberOf earlier writeBytes writeAt readBytes readAt savedBytes savedAt itemBytes itemCount headerOf slotOf decode slot logIn okEntry lowest lowestBad cellAt cellBytes cellsOf tableWith apply savedOf play commitsOver owed entryCall itemList infoIn entryOf ownTests append openFresh openAt playCall readCell audit accept runAt grown feed isObject isCell isMarked hosted okWrite okWrites okRead okReads okSaved narrow goodAt lookup store step badFrame
-written-back = refl
-
-pub playing-hold : all sampleHolds playing ≡ true
+pub mistakes-shown : all sampleHolds mistakes ≡ true
 unfolding sampleHolds beAt bytesOf splice values joined first firstFrom picks eqList writesOf closed decided headerObjects numberOf earlier writeBytes writeAt readBytes readAt savedBytes savedAt itemBytes itemCount headerOf slotOf decode slot logIn okEntry lowest lowestBad cellAt cellBytes cellsOf tableWith apply savedOf play commitsOver owed entryCall itemList infoIn entryOf ownTests append openFresh openAt playCall readCell audit accept runAt grown feed isObject isCell isMarked hosted okWrite okWrites okRead okReads okSaved narrow goodAt lookup store step badFrame
-playing-hold = refl
-
-pub checkpoints-hold : all sampleHolds checkpoints ≡ true
-unfolding sampleHolds beAt bytesOf splice values joined first firstFrom picks eqList writesOf closed decided headerObjects numberOf earlier writeBytes writeAt readBytes readAt savedBytes savedAt itemBytes itemCount headerOf slotOf decode slot logIn okEntry lowest lowestBad cellAt cellBytes cellsOf tableWith apply savedOf play commitsOver owed entryCall itemList infoIn entryOf ownTests append openFresh openAt playCall readCell audit accept runAt grown feed isObject isCell isMarked hosted okWrite okWrites okRead okReads okSaved narrow goodAt lookup store step badFrame
-checkpoints-hold = refl
-
-pub refusing-hold : all sampleHolds refusing ≡ true
-unfolding sampleHolds beAt bytesOf splice values joined first firstFrom picks eqList writesOf closed decided headerObjects numberOf earlier writeBytes writeAt readBytes readAt savedBytes savedAt itemBytes itemCount headerOf slotOf decode slot logIn okEntry lowest lowestBad cellAt cellBytes cellsOf tableWith apply savedOf play commitsOver owed entryCall itemList infoIn entryOf ownTests append openFresh openAt playCall readCell audit accept runAt grown feed isObject isCell isMarked hosted okWrite okWrites okRead okReads okSaved narrow goodAt lookup store step badFrame
-refusing-hold = refl
+mistakes-shown = refl

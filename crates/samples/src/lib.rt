@@ -1,0 +1,1 @@
+// More samples of the model, computed (see specs/). There are no functions.
