@@ -10,7 +10,7 @@ use Rattle.model.specs.Objects.{Shape, okShape}
 use Rattle.model.specs.Slot.{logIn, logOf}
 use Rattle.model.specs.Rules.{lowestBad}
 use Rattle.model.specs.Answers.{Answer, done, refused}
-use Rattle.model.specs.Append.{Request, append}
+use Rattle.model.specs.Append.{Request}
 use Rattle.model.specs.Claims.{Lent, inLog, tailAfter, appendTo, after, grown, empty, KeepsGood}
 use Rattle.laws.proofs.Refusals.{below-good}
 use Rattle.laws.proofs.Appends.{accepted, refused-same}

@@ -1,14 +1,14 @@
 -- A call depends on the length of the log, the bytes below the tail and the counted cells of the table, and on no other byte:
 -- the log is read from those bytes, and the cells from the counted ones, so each call is given equal arguments.
-use Prim.Native.Nat.{ℕ, zero, suc, _+_, _*_, _<_, _≤_}
+use Prim.Native.Nat.{ℕ, _+_, _*_, _<_, _≤_}
 use mathlib.Core.Path.{_≡_, refl, ap, ap₂, sym, _∙_}
-use mathlib.Core.List.{List, [], _∷_}
+use mathlib.Core.List.{List}
 use mathlib.Core.Option.{Option, none, some}
 use native.Mathlib.Omega.{arith}
-use lib.ListN.{length, take, drop, getD, length-append}
+use lib.ListN.{length, take, drop, getD}
 use lib.Seq.{getD-take, take-at, drop-at}
-use Rattle.lists.specs.Bytes.{beAt, beAt-same, length-bytesOf}
-use Rattle.lists.specs.Rows.{values, joined, values-same}
+use Rattle.lists.specs.Bytes.{beAt, beAt-same}
+use Rattle.lists.specs.Rows.{joined, values-same}
 use Rattle.model.specs.Objects.{Shape, everything}
 use Rattle.model.specs.Entries.{Log}
 use Rattle.model.specs.Slot.{slotOf, logIn, logOf}

@@ -1,7 +1,7 @@
 -- A play never needs more cells than the table has room for, so it leaves the table's length as it was, and a count that fits:
 -- each step tests the room before it writes, and a replica whose count is over the capacity is refused.
 use Prim.Native.Nat.{ℕ, zero, suc, _+_, _*_, _-_, _≤_}
-use mathlib.Core.Path.{_≡_, refl, ap}
+use mathlib.Core.Path.{_≡_, refl}
 use mathlib.Core.Bool.{Bool, true, false, cond}
 use mathlib.Core.List.{List, [], _∷_, _++_}
 use mathlib.Core.Option.{Option, none, some}
@@ -9,7 +9,7 @@ use native.Mathlib.Omega.{arith}
 use borrow.Author.Tests.{leb-true, ltb-false}
 use lib.Dec.{leb}
 use lib.ListN.{length, drop, length-append, length-drop}
-use Rattle.lists.specs.Rows.{values, joined}
+use Rattle.lists.specs.Rows.{joined}
 use Rattle.lists.specs.Sets.{meets}
 use Rattle.model.specs.Objects.{Shape, hosted}
 use Rattle.model.specs.Entries.{Write, Effect, writes, aside, tries, inert, effect, Log, writesOf, headerObjects}

@@ -1,8 +1,7 @@
 -- A fold over the indices lo, lo + 1, .. lo + n - 1: one turn, instalments, a state that nothing changes.
-use mathlib.Core.Path.{_≡_, refl, ap, sym, subst, _∙_}
+use mathlib.Core.Path.{_≡_, refl, ap, sym, _∙_}
 use Prim.Native.Nat.{ℕ, zero, suc, _+_, _-_, _≤_, _<_}
 use native.Mathlib.Nat.{add-zero, add-suc, add-assoc}
-use native.Mathlib.Numerals.{add-one}
 use native.Mathlib.Omega.{arith}
 
 module _ {A : Type 0} (f : A → ℕ → A) where

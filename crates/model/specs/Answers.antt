@@ -1,9 +1,9 @@
 -- Document 01, "Answers other than done": refusals, and the order in which they are tested.
-use Prim.Native.Nat.{ℕ, zero, suc, _/_, _%_}
-use mathlib.Core.Bool.{Bool, true, false, cond, not, _&&_, _||_}
-use mathlib.Core.List.{List, [], _∷_, _++_}
+use Prim.Native.Nat.{ℕ, _/_, _%_}
+use mathlib.Core.Bool.{Bool, cond, not, _||_}
+use mathlib.Core.List.{List, [], _∷_}
 use mathlib.Core.Option.{Option, none, some}
-use lib.Dec.{eqb, leb, ltb}
+use lib.Dec.{eqb, ltb}
 use Rattle.model.specs.Objects.{Shape}
 use Rattle.model.specs.Entries.{Log}
 use Rattle.model.specs.Slot.{slotSize, mostSlots}

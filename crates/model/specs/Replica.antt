@@ -1,16 +1,15 @@
 -- The calls on a replica: opening fresh and at a checkpoint, play, cell reading; and the audit.
-use Prim.Native.Nat.{ℕ, zero, suc, _+_, _-_}
-use mathlib.Core.Bool.{Bool, true, false, cond, not, _&&_, _||_, Bool·beq}
+use Prim.Native.Nat.{ℕ, _+_, _-_}
+use mathlib.Core.Bool.{Bool, true, false, not, _&&_, _||_, Bool·beq}
 use mathlib.Core.List.{List, [], _∷_, _++_, map}
 use mathlib.Core.Option.{Option, none, some}
 use lib.Dec.{eqb, leb, ltb}
 use lib.ListN.{length}
 use Rattle.lists.specs.Sets.{mem}
-use Rattle.model.specs.Objects.{Shape, ids, isObject, isCell, hosted, setOf, everything}
-use Rattle.model.specs.Entries.{Held, Saved, Claim, Entry, plain, numbered, commit, decision, checkpoint, blank, Log, commitAt, ifSome, isNone}
-use Rattle.model.specs.Slot.{logOf}
+use Rattle.model.specs.Objects.{Shape, ids, isCell, hosted, setOf, everything}
+use Rattle.model.specs.Entries.{Held, Saved, Entry, plain, numbered, commit, decision, checkpoint, blank, Log, commitAt, ifSome, isNone}
 use Rattle.model.specs.Rules.{lowest}
-use Rattle.model.specs.Table.{Cell, Holds, cellsOf, tableWith, capacity, lookup, cellOf, savedOf}
+use Rattle.model.specs.Table.{Cell, cellsOf, tableWith, capacity, lookup, cellOf, savedOf}
 use Rattle.model.specs.Play.{Played, going, waits, lacks, cellsIn, commitsOver, play}
 use Rattle.model.specs.Answers.{Refusal, Answer, done, refused, refuse, refuseAt, firstOf, answer, frameAndEntries}
 use Rattle.model.specs.Append.{Replica, badRecord, badReplica}

@@ -1,9 +1,7 @@
 -- What the program playlog prints of a log: "commit records in log order, then cells ascending".
-use Prim.Native.Nat.{ℕ, zero, suc, _/_}
-use mathlib.Core.Bool.{Bool, true, false, cond}
+use Prim.Native.Nat.{ℕ, zero, suc}
+use mathlib.Core.Bool.{Bool}
 use mathlib.Core.List.{List, [], _∷_, _++_, map}
-use mathlib.Core.Option.{Option, none, some}
-use lib.ListN.{length}
 use Rattle.model.specs.Objects.{Object, Shape}
 use Rattle.model.specs.Entries.{Saved, Log, commitAt, ifSome}
 use Rattle.model.specs.Table.{Cell, capacity, cellOf, savedOf}

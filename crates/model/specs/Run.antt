@@ -1,11 +1,11 @@
 -- Document 01, "The one-by-one run": fed each append's arguments in order, and whether it was refused.
 -- It has a test of reads and a stamping of versions of its own, and shares neither with the player.
-use Prim.Native.Nat.{ℕ, zero, suc, _+_}
-use mathlib.Core.Bool.{Bool, true, false, cond, not, _&&_, _||_}
+use Prim.Native.Nat.{ℕ, _+_}
+use mathlib.Core.Bool.{Bool, true, cond, _&&_}
 use mathlib.Core.List.{List, [], _∷_, _++_}
 use mathlib.Core.Option.{Option, none, some}
 use lib.Dec.{eqb}
-use Rattle.model.specs.Entries.{Write, Read, Claim, Held, contentOf}
+use Rattle.model.specs.Entries.{Write, Read, Held, contentOf}
 use Rattle.model.specs.Table.{Holds}
 use Rattle.model.specs.Append.{Request, update, commits, decides, saves, writesGiven, claimGiven}
 

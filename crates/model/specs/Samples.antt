@@ -3,11 +3,11 @@
 -- for a proof. The samples here show the mistakes that the worked logs do not; crate `samples` has more.
 use Prim.Native.Nat.{ℕ, zero, suc, _+_, _*_}
 use mathlib.Core.Path.{_≡_, refl}
-use mathlib.Core.Bool.{Bool, true, false, cond, not, _&&_, _||_, Bool·beq}
+use mathlib.Core.Bool.{Bool, true, false, not, _&&_, _||_, Bool·beq}
 use mathlib.Core.List.{List, [], _∷_, _++_}
 use mathlib.Core.Option.{Option, none, some}
 use lib.Dec.{eqb, leb, ltb}
-use lib.ListN.{length, take, replicate}
+use lib.ListN.{length, replicate}
 use Rattle.lists.specs.Bytes.{beAt, bytesOf}
 use Rattle.lists.specs.Splice.{splice}
 use Rattle.lists.specs.Rows.{values, joined}
@@ -15,19 +15,19 @@ use Rattle.lists.specs.First.{first, firstFrom}
 use Rattle.lists.specs.Picks.{picks}
 use Rattle.lists.specs.Equal.{eqList}
 use Rattle.lists.specs.Sets.{all, isEmpty, mem, meets}
-use Rattle.model.specs.Objects.{Object, ObjectKind, aMap, aRegister, Shape, okShape, isObject, isCell, isMarked, hosted}
-use Rattle.model.specs.Entries.{Read, Held, Claim, Log, commitAt, ifSome, isNone, writesOf, closed, decided, headerObjects, numberOf, earlier, commitObjects, ofObject}
+use Rattle.model.specs.Objects.{Object, ObjectKind, aMap, aRegister, Shape, isObject, isCell, isMarked, hosted}
+use Rattle.model.specs.Entries.{Read, Held, Log, commitAt, ifSome, isNone, writesOf, closed, decided, headerObjects, numberOf, earlier, commitObjects}
 use Rattle.model.specs.Slot.{writeBytes, writeAt, readBytes, readAt, savedBytes, savedAt, itemBytes, itemCount, headerOf, slotOf, decode, slot, logIn}
 use Rattle.model.specs.Rules.{okEntry, lowest, lowestBad, okWrite, okWrites, okRead, okReads, okSaved, narrow, goodAt}
 use Rattle.model.specs.Table.{Cell, Holds, cellAt, cellBytes, cellsOf, tableWith, capacity, apply, savedOf, versionIn, lookup, store}
 use Rattle.model.specs.Play.{play, commitsOver, outcome, step}
-use Rattle.model.specs.Answers.{Refusal, Answer, done, refused, badFrame}
-use Rattle.model.specs.Reading.{Info, check, owed, entryCall, itemList, infoIn}
-use Rattle.model.specs.Append.{Replica, Request, update, commits, decides, saves, entryOf, ownTests, append}
+use Rattle.model.specs.Answers.{Answer, done, refused, badFrame}
+use Rattle.model.specs.Reading.{Info, owed, entryCall, itemList, infoIn}
+use Rattle.model.specs.Append.{Request, update, commits, decides, saves, entryOf, ownTests, append}
 use Rattle.model.specs.Replica.{Left, openFresh, openAt, playCall, readCell, audit, sameContent}
 use Rattle.model.specs.Run.{Run, start, current, accept, runAt}
 use Rattle.model.specs.Claims.{Lent, inLog, empty, after, grown, feed, History, wholeLog, stood, Carried, carried, Opening, fresh, atCheckpoint, opened, hosts, shown, cellsWritten, blocked, givenItems, kindGiven, headerObjectsIn}
-use Rattle.model.specs.Worked.{code, put, remove, read, cell}
+use Rattle.model.specs.Worked.{code, put, read, cell}
 
 -- the eight objects with fewer keys, so that every cell can be looked at
 abbrev pub obj : ℕ → ObjectKind → ℕ → Bool → Object

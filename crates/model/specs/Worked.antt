@@ -1,7 +1,7 @@
 -- Document 01, "Worked logs": the lines marked (P) as one table, and one fact that covers all its rows.
-use Prim.Native.Nat.{ℕ, zero, suc, _+_, _*_}
+use Prim.Native.Nat.{ℕ, _*_}
 use mathlib.Core.Path.{_≡_, refl}
-use mathlib.Core.Bool.{Bool, true, false, cond, not, _&&_, _||_, Bool·beq}
+use mathlib.Core.Bool.{Bool, true, false, cond, _&&_, Bool·beq}
 use mathlib.Core.List.{List, [], _∷_, _++_}
 use mathlib.Core.Option.{Option, none, some}
 use lib.Dec.{eqb}
@@ -13,15 +13,15 @@ use Rattle.lists.specs.First.{first, firstFrom}
 use Rattle.lists.specs.Equal.{eqList}
 use Rattle.lists.specs.Sets.{all}
 use Rattle.model.specs.Objects.{depots, isObject, isCell, isMarked, hosted}
-use Rattle.model.specs.Entries.{Write, Read, Held, Entry, checkpoint, Log, writesOf, closed, decided, headerObjects, numberOf, earlier}
+use Rattle.model.specs.Entries.{checkpoint, Log, writesOf, closed, decided, headerObjects, numberOf, earlier}
 use Rattle.model.specs.Slot.{writeBytes, writeAt, readBytes, readAt, savedBytes, savedAt, itemBytes, itemCount, headerOf, slotOf, decode, slot, logIn}
 use Rattle.model.specs.Rules.{okEntry, lowest, lowestBad, okWrite, okWrites, okRead, okReads, okSaved, narrow, goodAt}
 use Rattle.model.specs.Table.{Cell, cellAt, cellBytes, cellsOf, tableWith, apply, savedOf, cellOf, lookup, store}
 use Rattle.model.specs.Play.{play, commitsOver, step}
 use Rattle.model.specs.Answers.{Answer, done, refused, badFrame}
-use Rattle.model.specs.Append.{Replica, Request, update, commits, decides, saves, entryOf, ownTests, append}
-use Rattle.model.specs.Replica.{Left, playCall, audit, openAt, openFresh}
-use Rattle.model.specs.Report.{Outcome, Report, outcomes, report}
+use Rattle.model.specs.Append.{Request, update, commits, decides, entryOf, ownTests, append}
+use Rattle.model.specs.Replica.{Left, playCall, audit}
+use Rattle.model.specs.Report.{Outcome, outcomes, report}
 use Rattle.model.specs.Claims.{Lent, inLog, empty, grown}
 
 -- Arguments of appends, as bytes.

@@ -1,32 +1,31 @@
 -- More small logs on which demands 2 and 3 are computed true, with what their calls answer (see `model` Samples).
-use Prim.Native.Nat.{ℕ, zero, suc, _+_, _*_}
+use Prim.Native.Nat.{_*_}
 use mathlib.Core.Path.{_≡_, refl}
-use mathlib.Core.Bool.{Bool, true, false, cond, not, _&&_, _||_, Bool·beq}
+use mathlib.Core.Bool.{true}
 use mathlib.Core.List.{List, [], _∷_, _++_}
-use mathlib.Core.Option.{Option, none, some}
-use lib.Dec.{eqb, leb, ltb}
-use lib.ListN.{length, take, replicate}
+use mathlib.Core.Option.{none, some}
+use lib.ListN.{replicate}
 use Rattle.lists.specs.Bytes.{beAt, bytesOf}
 use Rattle.lists.specs.Splice.{splice}
 use Rattle.lists.specs.Rows.{values, joined}
 use Rattle.lists.specs.First.{first, firstFrom}
 use Rattle.lists.specs.Picks.{picks}
 use Rattle.lists.specs.Equal.{eqList}
-use Rattle.lists.specs.Sets.{all, isEmpty, mem, meets}
-use Rattle.model.specs.Objects.{Object, ObjectKind, aMap, aRegister, Shape, okShape, isObject, isCell, isMarked, hosted}
-use Rattle.model.specs.Entries.{Read, Held, Claim, Log, commitAt, ifSome, isNone, writesOf, closed, decided, headerObjects, numberOf, earlier, commitObjects, ofObject}
+use Rattle.lists.specs.Sets.{all}
+use Rattle.model.specs.Objects.{isObject, isCell, isMarked, hosted}
+use Rattle.model.specs.Entries.{writesOf, closed, decided, headerObjects, numberOf, earlier}
 use Rattle.model.specs.Slot.{writeBytes, writeAt, readBytes, readAt, savedBytes, savedAt, itemBytes, itemCount, headerOf, slotOf, decode, slot, logIn}
 use Rattle.model.specs.Rules.{okEntry, lowest, lowestBad, okWrite, okWrites, okRead, okReads, okSaved, narrow, goodAt}
-use Rattle.model.specs.Table.{Cell, Holds, cellAt, cellBytes, cellsOf, tableWith, capacity, apply, savedOf, versionIn, lookup, store}
-use Rattle.model.specs.Play.{play, commitsOver, outcome, step}
-use Rattle.model.specs.Answers.{Refusal, Answer, done, refused, badFrame}
-use Rattle.model.specs.Reading.{Info, check, owed, entryCall, itemList, infoIn}
-use Rattle.model.specs.Append.{Replica, Request, update, commits, decides, saves, entryOf, ownTests, append}
-use Rattle.model.specs.Replica.{Left, openFresh, openAt, playCall, readCell, audit, sameContent}
-use Rattle.model.specs.Run.{Run, start, current, accept, runAt}
-use Rattle.model.specs.Claims.{Lent, inLog, empty, after, grown, feed, History, wholeLog, stood, Carried, carried, Opening, fresh, atCheckpoint, opened, hosts, shown, cellsWritten, blocked, givenItems, kindGiven, headerObjectsIn}
-use Rattle.model.specs.Worked.{code, put, remove, read, cell}
-use Rattle.model.specs.Samples.{small, Turn, Sample, turnsHold, sampleHolds, backHolds, backsHold, to, but, five, one, all8, only2, only5, save, both, across, passes, fails, owing}
+use Rattle.model.specs.Table.{cellAt, cellBytes, cellsOf, tableWith, apply, savedOf, lookup, store}
+use Rattle.model.specs.Play.{play, commitsOver, step}
+use Rattle.model.specs.Answers.{badFrame}
+use Rattle.model.specs.Reading.{owed, entryCall, itemList, infoIn}
+use Rattle.model.specs.Append.{Request, update, commits, decides, entryOf, ownTests, append}
+use Rattle.model.specs.Replica.{openFresh, openAt, playCall, readCell, audit}
+use Rattle.model.specs.Run.{accept, runAt}
+use Rattle.model.specs.Claims.{empty, grown, feed, fresh, atCheckpoint}
+use Rattle.model.specs.Worked.{put, remove, read, cell}
+use Rattle.model.specs.Samples.{Sample, sampleHolds, backsHold, to, but, five, one, all8, only2, only5, save, both, across, passes, fails, owing}
 
 abbrev bench : List Request
 bench = update 0 (put 2 7 43) ∷ update 9 (put 2 7 42) ∷ update 10 (put 2 7 40) ∷ commits 9 (read 2 7 1) ∷ commits 10 (read 2 7 1) ∷ []
