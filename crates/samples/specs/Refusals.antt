@@ -1,0 +1,87 @@
+-- The numbers of refusals, computed: each append meets a refusal, some two at once, and the first of the "Order" line is
+-- answered; the stream reader and the stream list, done and refused, with what they leave.
+use Prim.Native.Nat.{ℕ, _*_}
+use mathlib.Core.Path.{_≡_, refl}
+use mathlib.Core.Bool.{Bool, true, _&&_}
+use mathlib.Core.List.{List, [], _∷_, _++_, map}
+use mathlib.Core.Option.{Option, none, some}
+use lib.Dec.{eqb}
+use lib.ListN.{replicate}
+use Rattle.lists.specs.Picks.{picks}
+use Rattle.model.specs.Reading.{Next, Listed, streamNext, streamList, offsetsOf}
+use Rattle.model.specs.Append.{Replica, Request, update, commits, decides, saves, append}
+use Rattle.model.specs.Claims.{Lent, inLog, empty, grown}
+use Rattle.model.specs.Worked.{code, put, read}
+use Rattle.model.specs.Samples.{small, tells, sameOffset}
+use Rattle.lists.specs.Bytes.{beAt, bytesOf}
+use Rattle.lists.specs.Splice.{splice}
+use Rattle.lists.specs.Rows.{values, joined}
+use Rattle.lists.specs.First.{first, firstFrom}
+use Rattle.lists.specs.Equal.{eqList}
+use Rattle.model.specs.Objects.{isObject, isCell, isMarked, hosted}
+use Rattle.model.specs.Entries.{writesOf, closed, decided, headerObjects, numberOf, earlier}
+use Rattle.model.specs.Slot.{writeBytes, writeAt, readBytes, readAt, savedBytes, savedAt, itemBytes, itemCount, headerOf, slotOf, decode, slot, logIn}
+use Rattle.model.specs.Rules.{okEntry, lowest, lowestBad, okWrite, okWrites, okRead, okReads, okSaved, narrow, goodAt}
+use Rattle.model.specs.Table.{cellAt, cellBytes, cellsOf, tableWith, apply, savedOf, lookup, store}
+use Rattle.model.specs.Play.{play, commitsOver, step}
+use Rattle.model.specs.Answers.{badFrame}
+use Rattle.model.specs.Reading.{owed, entryCall, itemList, infoIn}
+use Rattle.model.specs.Append.{entryOf, ownTests}
+use Rattle.model.specs.Replica.{openFresh, openAt, playCall, readCell, audit}
+use Rattle.model.specs.Run.{accept, runAt}
+use Rattle.model.specs.Claims.{feed}
+
+-- four entries: a plain update, number 9's update, its commit record, its decision
+abbrev base : List Request
+base = update 0 (put 2 7 4) ∷ update 9 (put 2 7 1 ++ put 5 1 2) ∷ commits 9 [] ∷ decides 2 1 ∷ []
+
+abbrev four : ℕ → Lent
+four slots = grown small (empty (replicate (256 * slots) 7)) base
+
+-- the numbers that a list of appends gets, each on the same log; 0 for done
+abbrev codes : Lent → List Request → List ℕ
+codes l qs = map (λ (q : Request). code (append small (l .bytes) (l .tail) q .newTail)) qs
+
+abbrev by : ℕ → ℕ → ℕ → Request
+by set position object = saves (record { hosting = set; position = position; count = 0 }) [] object
+
+-- Update: 3 no write, 3 a key too high, 5 before 4, 4, done. Commit: 3 number 0, 3 before 4, 4, 6. Decision: 3 an offset, 3 an
+-- outcome, 7, 8. Checkpoint: 10, 3 before 14, 14, done.
+abbrev asked : List Request
+asked =
+    update 0 [] ∷ update 0 (put 2 10 1)
+    ∷ update 9 (put 1 0 1 ++ put 2 0 1 ++ put 3 0 1 ++ put 4 0 1 ++ put 5 0 1) ∷ update 9 (put 1 0 1) ∷ update 0 (put 1 0 1)
+    ∷ commits 0 [] ∷ commits 9 (read 2 7 9) ∷ commits 9 [] ∷ commits 8 []
+    ∷ decides 9 1 ∷ decides 2 3 ∷ decides 0 1 ∷ decides 2 1
+    ∷ by 0 4 2 ∷ by 2 3 5 ∷ by 2 3 2 ∷ by 2 4 2
+    ∷ []
+
+pub refusals-told : eqList (let l = four 5 in codes l asked) (3 ∷ 3 ∷ 5 ∷ 4 ∷ 0 ∷ 3 ∷ 3 ∷ 4 ∷ 6 ∷ 3 ∷ 3 ∷ 7 ∷ 8 ∷ 10 ∷ 3 ∷ 14 ∷ 0 ∷ []) ≡ true
+unfolding beAt bytesOf splice values joined first firstFrom picks eqList writesOf closed decided headerObjects numberOf earlier writeBytes writeAt readBytes readAt savedBytes savedAt itemBytes itemCount headerOf slotOf decode slot logIn okEntry lowest lowestBad cellAt cellBytes cellsOf tableWith apply savedOf play commitsOver owed entryCall itemList infoIn entryOf ownTests append openFresh openAt playCall readCell audit accept runAt grown feed isObject isCell isMarked hosted okWrite okWrites okRead okReads okSaved narrow goodAt lookup store step badFrame
+refusals-told = refl
+
+-- a full log: 9, and the refusals that come before it
+pub full-told : eqList (let l = four 4 in codes l (update 0 (put 1 0 1) ∷ commits 8 [] ∷ decides 2 1 ∷ by 2 4 2 ∷ [])) (9 ∷ 6 ∷ 8 ∷ 9 ∷ []) ≡ true
+unfolding beAt bytesOf splice values joined first firstFrom picks eqList writesOf closed decided headerObjects numberOf earlier writeBytes writeAt readBytes readAt savedBytes savedAt itemBytes itemCount headerOf slotOf decode slot logIn okEntry lowest lowestBad cellAt cellBytes cellsOf tableWith apply savedOf play commitsOver owed entryCall itemList infoIn entryOf ownTests append openFresh openAt playCall readCell audit accept runAt grown feed isObject isCell isMarked hosted okWrite okWrites okRead okReads okSaved narrow goodAt lookup store step badFrame
+full-told = refl
+
+-- frame: the tail above the slots; a bad entry, with its offset
+pub frame-told : (let l = four 5 in
+    let above = append small (l .bytes) 6 (update 0 (put 1 0 1)) .newTail in
+    let junk = append small (l .bytes) 5 (update 0 (put 1 0 1)) .newTail in
+    eqb (code above) 1 && eqb (code junk) 2 && sameOffset (tells junk) (some 4)) ≡ true
+unfolding beAt bytesOf splice values joined first firstFrom picks eqList writesOf closed decided headerObjects numberOf earlier writeBytes writeAt readBytes readAt savedBytes savedAt itemBytes itemCount headerOf slotOf decode slot logIn okEntry lowest lowestBad cellAt cellBytes cellsOf tableWith apply savedOf play commitsOver owed entryCall itemList infoIn entryOf ownTests append openFresh openAt playCall readCell audit accept runAt grown feed isObject isCell isMarked hosted okWrite okWrites okRead okReads okSaved narrow goodAt lookup store step badFrame
+frame-told = refl
+
+-- the reader: found, the end, above the tail, no object; the list: done with the rest untouched, and too short
+abbrev isNext : Next → ℕ → ℕ → Bool
+isNext x c r = eqb (code (x .found)) c && eqb (x .reader) r
+
+abbrev isListed : Listed → ℕ → List ℕ → Bool
+isListed x c l = eqb (code (x .count)) c && eqList (x .list) l
+
+pub streams-told : (let log = inLog (four 5) in
+    isNext (streamNext small log 5 0) 0 2 && isNext (streamNext small log 5 4) 0 4 && isNext (streamNext small log 5 5) 3 5 && isNext (streamNext small log 9 0) 3 0
+    && isListed (streamList small log 5 (replicate 5 7)) 0 (1 ∷ 2 ∷ 3 ∷ 7 ∷ 7 ∷ []) && isListed (streamList small log 2 (replicate 3 7)) 13 (7 ∷ 7 ∷ 7 ∷ [])) ≡ true
+unfolding streamNext streamList offsetsOf beAt bytesOf splice values joined first firstFrom picks eqList writesOf closed decided headerObjects numberOf earlier writeBytes writeAt readBytes readAt savedBytes savedAt itemBytes itemCount headerOf slotOf decode slot logIn okEntry lowest lowestBad cellAt cellBytes cellsOf tableWith apply savedOf play commitsOver owed entryCall itemList infoIn entryOf ownTests append openFresh openAt playCall readCell audit accept runAt grown feed isObject isCell isMarked hosted okWrite okWrites okRead okReads okSaved narrow goodAt lookup store step badFrame
+streams-told = refl
