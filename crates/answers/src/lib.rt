@@ -1,0 +1,45 @@
+// Document 01's answers other than done, as one enum that every call answers with.
+ghost use mathlib.Core.Path.{_≡_};
+ghost use Rattle.answers.specs.Refusals.{refusalIn};
+use codec::names::Offset;
+
+pub enum Refusal {
+    Frame,
+    BadEntry(Offset),
+    Request,
+    Closed,
+    Wide,
+    Empty,
+    NoCommit,
+    Decided,
+    Full,
+    BadReplica,
+    FalseRecord(Offset),
+    Waiting,
+    NoRoom,
+    NoRoomAt(Offset),
+    Behind,
+}
+
+// The number of a refusal in the table.
+pub fn number_of(r: Refusal) -> u32
+    ensures { λ n. ⌜ n ≡ refusalIn r .number ⌝ }
+{
+    match r {
+        Refusal::Frame => 1,
+        Refusal::BadEntry(_) => 2,
+        Refusal::Request => 3,
+        Refusal::Closed => 4,
+        Refusal::Wide => 5,
+        Refusal::Empty => 6,
+        Refusal::NoCommit => 7,
+        Refusal::Decided => 8,
+        Refusal::Full => 9,
+        Refusal::BadReplica => 10,
+        Refusal::FalseRecord(_) => 11,
+        Refusal::Waiting => 12,
+        Refusal::NoRoom => 13,
+        Refusal::NoRoomAt(_) => 13,
+        Refusal::Behind => 14,
+    }
+}
