@@ -8,3 +8,4 @@ pub mod Every
 pub mod Picks
 pub mod Fold
 pub mod Equal
+pub mod Walk
