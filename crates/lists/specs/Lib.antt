@@ -9,3 +9,4 @@ pub mod Ascend
 pub mod Picks
 pub mod Fold
 pub mod Equal
+pub mod Walk

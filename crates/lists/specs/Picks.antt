@@ -2,12 +2,14 @@
 use mathlib.Core.Path.{_≡_, ap, sym, _∙_}
 use mathlib.Core.Bool.{Bool, true, false, cond}
 use mathlib.Core.List.{List, [], _∷_, _++_, append-nil}
+use mathlib.Core.Logic.{⊎-elim}
 use Prim.Native.Nat.{ℕ, zero, suc, _+_, _≤_, _<_}
-use native.Mathlib.Nat.{le-refl, le-trans}
+use native.Mathlib.Nat.{le-refl, le-trans, eq-or-lt-of-le}
 use native.Mathlib.Numerals.{add-one}
 use native.Mathlib.Decide.{le-ind}
 use native.Mathlib.Omega.{arith}
-use lib.ListN.{length, length-append, set}
+use lib.ListN.{length, take, drop, getD, length-append, take-append-drop, set, List·getD-append}
+use lib.Seq.{take-length, take-append-le, getD-at}
 use Rattle.lists.specs.Splice.{splice, Filled, filled-none, filled-push}
 
 unfoldable pub picks : (ℕ → Bool) → ℕ → List ℕ
@@ -29,6 +31,33 @@ module _ (f : ℕ → Bool) where
   picks-mono i n h =
       le-ind (λ (m : ℕ). length (picks f i) ≤ length (picks f m)) (le-refl _)
       (λ m k e. le-trans e (simp length-append (omega arith))) n h
+
+  -- the picks below i stand first among those below n
+  pub picks-front : (i n : ℕ) → i ≤ n → take (length (picks f i)) (picks f n) ≡ picks f i
+  unfolding picks
+  picks-front i n h =
+      le-ind (λ (m : ℕ). take (length (picks f i)) (picks f m) ≡ picks f i) (take-length (picks f i))
+      (λ m k e. take-append-le (length (picks f i)) (picks f m) (cond (f m) (m ∷ []) []) (picks-mono i m k) ∙ e) n h
+
+  pub picks-rest : (i n : ℕ) → i ≤ n → picks f n ≡ picks f i ++ drop (length (picks f i)) (picks f n)
+  picks-rest i n h =
+      sym (take-append-drop (length (picks f i)) (picks f n))
+      ∙ ap (λ (t : List ℕ). t ++ drop (length (picks f i)) (picks f n)) (picks-front i n h)
+
+  -- each is below the bound
+  pub picks-below : (n k : ℕ) → k < length (picks f n) → getD (picks f n) k 0 < n
+  unfolding picks
+  picks-below zero k h = absurd (omega arith)
+  picks-below (suc n) k h = go (f n) h (λ l. picks-below n k l)
+    where
+      go : (b : Bool) → k < length (picks f n ++ cond b (n ∷ []) []) → (k < length (picks f n) → getD (picks f n) k 0 < n)
+          → getD (picks f n ++ cond b (n ∷ []) []) k 0 < suc n
+      go true h ih =
+          let l : k ≤ length (picks f n) = omega (arith, length-append (picks f n) (n ∷ [])) in
+          ⊎-elim (λ e. rw (getD-at (picks f n) n [] 0 k (sym e)) (omega arith))
+          (λ e. rw (List·getD-append (picks f n) (n ∷ []) 0 k e) (omega (arith, ih e)))
+          (eq-or-lt-of-le l)
+      go false h ih = let l : k < length (picks f n) = rw append-nil at h in rw append-nil (omega (arith, ih l))
 
 -- the loop: k indices passed, j picks listed at the front of out
 pub record Listing (f : ℕ → Bool) (n : ℕ) (out₀ : List ℕ) (k j : ℕ) (out : List ℕ) : Type 0 where
