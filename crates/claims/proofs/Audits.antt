@@ -20,10 +20,10 @@ use Rattle.model.specs.Answers.{Refusal, done, answer, firstOf, slots, badFrame
 use Rattle.model.specs.Replica.{auditPlay, commitsThere, asPlayed, lowestFalse, auditGiven, audit}
 use Rattle.model.specs.Run.{current}
 use Rattle.model.specs.Claims.{isRefused}
+use Rattle.laws.proofs.Items.{cell-object}
 use Rattle.laws.proofs.Refusals.{all-pass, refuse-none, refuseAt-none, lowest-none}
 use Rattle.laws.proofs.Slots.{Kept, writes-ok}
 use Rattle.laws.proofs.Appends.{good-kept, frame-few}
-use Rattle.claims.proofs.Counts.{cell-object}
 use Rattle.claims.proofs.Cells.{Shown}
 use Rattle.claims.proofs.Runs.{run, commitsAt}
 use Rattle.claims.proofs.Steps.{start-shown, reads-same, TrueBelow, Trust, Placed, Ok, play-ok}

@@ -3,17 +3,18 @@
 use Prim.Native.Nat.{ℕ, zero, suc, _+_, _<_, _≤_}
 use mathlib.Core.Path.{_≡_, refl, ap₂, sym}
 use mathlib.Core.Bool.{Bool, true, false, cond, _&&_, _||_}
-use mathlib.Core.List.{List, [], _∷_, map}
+use mathlib.Core.List.{List, [], _∷_}
 use mathlib.Core.Option.{none, some}
 use native.Mathlib.Omega.{arith}
 use borrow.Author.Tests.{eqb-true, eqb-false, eq-eqb, ne-eqb, ltb-true, leb-true}
 use lib.Dec.{eqb, leb, ltb}
 use Rattle.lists.specs.Tests.{and-l, and-r, both, clash}
-use Rattle.lists.specs.Sets.{any, mem, ascending, rest-ascends}
+use Rattle.lists.specs.Sets.{mem, ascending, rest-ascends}
 use Rattle.model.specs.Objects.{Object}
 use Rattle.model.specs.Entries.{Held, isNone}
 use Rattle.model.specs.Table.{Holds}
 use Rattle.model.specs.Claims.{keysWritten, cellsWritten}
+use Rattle.laws.proofs.Items.{idsOf, cellIn, cell-object}
 
 -- ---- the same cell
 
@@ -77,12 +78,6 @@ written-none (b ∷ bs) set = rw (keys (b .id) (suc b.highest), written-none bs 
 abbrev pub byId : Object → Object → Bool
 byId a b = ltb a.id b.id
 
-abbrev pub idsOf : List Object → List ℕ
-idsOf bs = map (λ (b : Object). b .id) bs
-
-abbrev pub cellIn : List Object → ℕ → ℕ → Bool
-cellIn bs o k = any (λ (b : Object). eqb b.id o && leb k b.highest) bs
-
 -- an id below the first of an ascending directory is not in it
 below-all : (x : ℕ) (c : Object) (bs : List Object) → x < c .id → ascending byId (c ∷ bs) ≡ true → mem x (idsOf (c ∷ bs)) ≡ false
 below-all x c [] l a = rw (ne-eqb (c .id) x (omega arith))
@@ -93,15 +88,6 @@ below-all x c (d ∷ bs) l a =
 once : (b : Object) (bs : List Object) → ascending byId (b ∷ bs) ≡ true → mem (b .id) (idsOf bs) ≡ false
 once b [] a = refl
 once b (c ∷ bs) a = below-all (b .id) c bs (ltb-true (b .id) (c .id) (and-l (byId b c) (ascending byId (c ∷ bs)) a)) (and-r (byId b c) (ascending byId (c ∷ bs)) a)
-
--- a cell's object is in the directory
-pub cell-object : (bs : List Object) (o k : ℕ) → cellIn bs o k ≡ true → mem o (idsOf bs) ≡ true
-cell-object [] o k h = h
-cell-object (b ∷ bs) o k h = go (λ i. cell-object bs o k i) (eqb b.id o) h
-  where
-    go : (cellIn bs o k ≡ true → mem o (idsOf bs) ≡ true) → (x : Bool) → ((x && leb k b.highest) || cellIn bs o k) ≡ true → (x || mem o (idsOf bs)) ≡ true
-    go ih true i = refl
-    go ih false i = ih i
 
 -- ---- one cell written for the first time
 
