@@ -6,9 +6,9 @@ use native.Mathlib.Omega.{arith}
 use lib.Dec.{ltb}
 use borrow.Author.Tests.{ltb-true, ltb-false, not-true, not-false}
 use Rattle.lists.specs.Tests.{clash, both}
-use Rattle.lists.specs.Sets.{all}
+use Rattle.lists.specs.Sets.{all, any, any-not-all}
 use Rattle.lists.specs.Rows.{values}
-use Rattle.lists.specs.First.{first, Seeking, seeking-end, first-below}
+use Rattle.lists.specs.First.{Seeking, seeking-below}
 
 module _ {A : Type 0} (f : A → Bool) (g : ℕ → A) where
   -- the index fails the test
@@ -38,6 +38,20 @@ module _ {A : Type 0} (f : A → Bool) (g : ℕ → A) where
 
   -- the loop found none
   pub every-all : {n i : ℕ} → Seeking failing n i → n ≤ i → all f (values g 0 n) ≡ true
-  every-all {n} {i} s l =
-      let e : first failing n ≡ n = seeking-end s l in
-      every 0 n (λ k a b. not-false (f (g k)) (first-below failing n k (rw e (omega arith))))
+  every-all {n} s l = every 0 n (λ k a b. not-false (f (g k)) (seeking-below s k (omega arith)))
+
+-- ---- some value passes
+
+module _ {A : Type 0} (f : A → Bool) (g : ℕ → A) where
+  abbrev fails : A → Bool
+  fails x = not (f x)
+
+  -- the loop found an index that passes
+  pub some-found : {n i : ℕ} → Seeking (λ k. f (g k)) n i → i < n → f (g i) ≡ true → any f (values g 0 n) ≡ true
+  some-found {n} {i} s l e =
+      any-not-all f (values g 0 n) ∙ ap not (some-fails fails g 0 n i (omega arith) (omega arith) (ap not e))
+
+  -- the loop found none
+  pub some-none : {n i : ℕ} → Seeking (λ k. f (g k)) n i → n ≤ i → any f (values g 0 n) ≡ false
+  some-none {n} {i} s l =
+      any-not-all f (values g 0 n) ∙ ap not (every fails g 0 n (λ k a b. ap not (seeking-below s k (omega arith))))

@@ -78,6 +78,15 @@ module _ (f : ℕ → Bool) where
       by true e l ih = e
       by false e l ih = ih (omega arith)
 
+  from-ge : (i n : ℕ) → i ≤ firstFrom f i n
+  unfolding firstFrom
+  from-ge i zero = omega arith
+  from-ge i (suc n) = by (f i) (from-ge (suc i) n)
+    where
+      by : (t : Bool) → suc i ≤ firstFrom f (suc i) n → i ≤ cond t i (firstFrom f (suc i) n)
+      by true h = omega arith
+      by false h = omega arith
+
   pub first-le : (n : ℕ) → first f n ≤ n
   unfolding first
   first-le n = omega (arith, from-le 0 n)
@@ -102,3 +111,15 @@ first-same f g n h = go 0 n (λ k l. h k (omega arith))
 -- a test that fails at no index below n holds at each
 pub every-below : (f : ℕ → Bool) (n : ℕ) → first (λ k. not (f k)) n ≡ n → (k : ℕ) → k < n → f k ≡ true
 every-below f n e k l = not-false (f k) (first-below (λ k. not (f k)) n k (rw e l))
+
+-- a loop that has come to i has met no index before it at which the test holds, and a loop that has met none has come there
+pub seeking-below : {f : ℕ → Bool} {n i : ℕ} → Seeking f n i → (k : ℕ) → k < i → f k ≡ false
+seeking-below {f} {n} {i} s k l =
+    let h : i ≤ firstFrom f i (n - i) = from-ge f i (n - i) in
+    first-below f n k (omega (arith, s .rest))
+
+pub seeking-from : (f : ℕ → Bool) (n i : ℕ) → i ≤ n → ((k : ℕ) → k < i → f k ≡ false) → Seeking f n i
+seeking-from f n zero l h = seeking-none f n
+seeking-from f n (suc i) l h =
+    let s : Seeking f n (i + 1) = seeking-more (seeking-from f n i (omega arith) (λ k m. h k (omega arith))) (omega arith) (h i (omega arith)) in
+    rw add-one at s

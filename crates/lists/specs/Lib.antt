@@ -5,6 +5,7 @@ pub mod Rows
 pub mod Sets
 pub mod First
 pub mod Every
+pub mod Ascend
 pub mod Picks
 pub mod Fold
 pub mod Equal

@@ -1,13 +1,13 @@
 -- Tests over lists, and sets of numbers kept as lists.
-use mathlib.Core.Path.{_≡_, refl, ap, _∙_}
-use mathlib.Core.Bool.{Bool, true, false, cond, _&&_, _||_}
+use mathlib.Core.Path.{_≡_, refl, ap, ap₂, sym, _∙_}
+use mathlib.Core.Bool.{Bool, true, false, cond, not, _&&_, _||_}
 use mathlib.Core.List.{List, [], _∷_, _++_}
 use Prim.Native.Nat.{ℕ, zero, suc}
 use native.Mathlib.Omega.{arith}
 use lib.Dec.{eqb, ltb}
 use lib.ListN.{getD}
-use borrow.Author.Tests.{eqb-true, eqb-false, ltb-false, lt-ltb}
-use Rattle.lists.specs.Tests.{and-l, and-r, both}
+use borrow.Author.Tests.{eqb-true, eqb-false, ltb-true, ltb-false, lt-ltb, eq-eqb, ne-eqb}
+use Rattle.lists.specs.Tests.{and-l, and-r, both, neither, clash}
 
 abbrev pub all {ℓ} : {A : Type ℓ} → (A → Bool) → List A → Bool
 all f [] = true
@@ -66,6 +66,23 @@ module _ {A : Type 0} where
   pub all-append : (f : A → Bool) (xs ys : List A) → all f xs ≡ true → all f ys ≡ true → all f (xs ++ ys) ≡ true
   all-append f [] ys h k = k
   all-append f (x ∷ xs) ys h k = both (and-l (f x) (all f xs) h) (all-append f xs ys (and-r (f x) (all f xs) h) k)
+
+  pub any-append : (f : A → Bool) (xs ys : List A) → any f (xs ++ ys) ≡ (any f xs || any f ys)
+  any-append f [] ys = refl
+  any-append f (x ∷ xs) ys = go (f x) (any-append f xs ys)
+    where
+      go : (b : Bool) → any f (xs ++ ys) ≡ (any f xs || any f ys) → (b || any f (xs ++ ys)) ≡ ((b || any f xs) || any f ys)
+      go true ih = refl
+      go false ih = ih
+
+  -- some element passes where not every element fails
+  pub any-not-all : (f : A → Bool) (xs : List A) → any f xs ≡ not (all (λ x. not (f x)) xs)
+  any-not-all f [] = refl
+  any-not-all f (x ∷ xs) = go (f x) (any-not-all f xs)
+    where
+      go : (b : Bool) → any f xs ≡ not (all (λ x. not (f x)) xs) → (b || any f xs) ≡ not (not b && all (λ x. not (f x)) xs)
+      go true ih = refl
+      go false ih = ih
 
 -- ---- laws of ascending lists
 
@@ -156,3 +173,78 @@ mem-insert y x l = any-insert (λ z. eqb z y) x l
 
 pub mem-set : (y : ℕ) (l : List ℕ) → mem y (ascendingSet l) ≡ mem y l
 mem-set y l = any-set (λ z. eqb z y) l
+
+pub mem-append : (x : ℕ) (xs ys : List ℕ) → mem x (xs ++ ys) ≡ (mem x xs || mem x ys)
+mem-append x xs ys = any-append (λ y. eqb y x) xs ys
+
+-- ---- an ascending list is known by its members
+
+before-all : (x y : ℕ) (l : List ℕ) → ltb x y ≡ true → leads ltb y l ≡ true → leads ltb x l ≡ true
+before-all x y [] h k = refl
+before-all x y (z ∷ l) h k = lt-ltb x z (omega (arith, ltb-true x y h, ltb-true y z k))
+
+-- a number before the first is not in the list
+lead-out : (x : ℕ) (l : List ℕ) → leads ltb x l ≡ true → ascending ltb l ≡ true → mem x l ≡ false
+lead-out x [] h a = refl
+lead-out x (y ∷ l) h a =
+    neither (ne-eqb y x (λ e. omega (arith, ltb-true x y h)))
+    (lead-out x l (before-all x y l h (first-leads ltb y l a)) (rest-ascends ltb y l a))
+
+first-in : (x : ℕ) (l : List ℕ) → mem x (x ∷ l) ≡ true
+first-in x l = rw (eq-eqb x x refl)
+
+-- a number that is not the first
+past : (x z : ℕ) (l : List ℕ) → eqb x z ≡ false → mem z (x ∷ l) ≡ mem z l
+past x z l e = rw e
+
+-- where the first is lower than every other member, the members differ
+lower-first : {P : Type 0} (x y : ℕ) (l m : List ℕ) → ltb x y ≡ true → ascending ltb (y ∷ m) ≡ true → mem x (x ∷ l) ≡ mem x (y ∷ m) → P
+lower-first x y l m h b e = clash (mem x (y ∷ m)) (sym e ∙ first-in x l) (lead-out x (y ∷ m) h b)
+
+-- two strictly ascending lists with the same members are the same
+pub set-same-members : (l m : List ℕ) → ascending ltb l ≡ true → ascending ltb m ≡ true → ((x : ℕ) → mem x l ≡ mem x m) → l ≡ m
+set-same-members [] [] a b h = refl
+set-same-members [] (y ∷ m) a b h = clash (mem y (y ∷ m)) (first-in y m) (sym (h y))
+set-same-members (x ∷ l) [] a b h = clash (mem x (x ∷ l)) (first-in x l) (h x)
+set-same-members (x ∷ l) (y ∷ m) a b h =
+    go (ltb x y) (eqb x y) refl refl (λ k. set-same-members l m (rest-ascends ltb x l a) (rest-ascends ltb y m b) k)
+  where
+    rest : x ≡ y → (z : ℕ) (c : Bool) → eqb x z ≡ c → mem z l ≡ mem z m
+    rest e z true q =
+        let f = eqb-true x z q in
+        ap (λ (k : ℕ). mem k l) (sym f) ∙ lead-out x l (first-leads ltb x l a) (rest-ascends ltb x l a)
+        ∙ sym (lead-out y m (first-leads ltb y m b) (rest-ascends ltb y m b)) ∙ ap (λ (k : ℕ). mem k m) (sym e ∙ f)
+    rest e z false q = sym (past x z l q) ∙ h z ∙ past y z m (ap (λ (k : ℕ). eqb k z) (sym e) ∙ q)
+
+    go : (c d : Bool) → ltb x y ≡ c → eqb x y ≡ d → (((z : ℕ) → mem z l ≡ mem z m) → l ≡ m) → x ∷ l ≡ y ∷ m
+    go true d p q ih = lower-first x y l m p b (h x)
+    go false true p q ih = let e = eqb-true x y q in ap₂ (λ (z : ℕ) (t : List ℕ). z ∷ t) e (ih (λ z. rest e z (eqb x z) refl))
+    go false false p q ih = lower-first y x m l (above x y p q) a (sym (h y))
+
+pub set-of-ascending : (l : List ℕ) → ascending ltb l ≡ true → ascendingSet l ≡ l
+set-of-ascending l a = set-same-members (ascendingSet l) l (ascending-set l) a (λ x. mem-set x l)
+
+-- lists with the same members have the same set
+pub set-same : (xs ys : List ℕ) → ((x : ℕ) → mem x xs ≡ mem x ys) → ascendingSet xs ≡ ascendingSet ys
+set-same xs ys h =
+    set-same-members (ascendingSet xs) (ascendingSet ys) (ascending-set xs) (ascending-set ys)
+    (λ x. mem-set x xs ∙ h x ∙ sym (mem-set x ys))
+
+pub set-union : (xs ys : List ℕ) → ascendingSet (ascendingSet xs ++ ascendingSet ys) ≡ ascendingSet (xs ++ ys)
+set-union xs ys =
+    set-same (ascendingSet xs ++ ascendingSet ys) (xs ++ ys)
+    (λ x. mem-append x (ascendingSet xs) (ascendingSet ys)
+    ∙ ap₂ (λ (a b : Bool). a || b) (mem-set x xs) (mem-set x ys) ∙ sym (mem-append x xs ys))
+
+pub empty-set : (xs : List ℕ) → isEmpty (ascendingSet xs) ≡ isEmpty xs
+empty-set [] = refl
+empty-set (x ∷ xs) = some (ascendingSet xs)
+  where
+    some : (l : List ℕ) → isEmpty (insertOnce x l) ≡ false
+    some [] = refl
+    some (y ∷ l) = go (ltb x y) (eqb x y)
+      where
+        go : (b c : Bool) → isEmpty (cond b (x ∷ y ∷ l) (cond c (y ∷ l) (y ∷ insertOnce x l))) ≡ false
+        go true c = refl
+        go false true = refl
+        go false false = refl

@@ -1,0 +1,14 @@
+-- The count of the bits, computed over all bytes.
+use native.Mathlib.Omega.{arith}
+use Rattle.sets.specs.Hosted.{hosted-size}
+use Rattle.sets.proofs.size.Statement.{statement}
+use Rattle.sets.proofs.size.Tie as tie
+use Rattle.sets.proofs.size.Reads as reads
+use Rattle.sets.proofs.size.Lts as lts
+
+-- src/lib.rt:25:1
+returns : tie.Need-returns
+returns c = hosted-size (c .args .set) (omega arith)
+
+pub size-spec : {M : Type 1} → statement M
+size-spec = tie.close (tie.spec returns)

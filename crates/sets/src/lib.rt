@@ -1,0 +1,29 @@
+// Sets of objects as one byte, by shift and mask.
+ghost use mathlib.Core.Path.{_≡_};
+ghost use mathlib.Core.List.{[], _∷_, _++_};
+ghost use Prim.Native.Nat.{_≤_};
+ghost use lib.ListN.{length};
+ghost use Rattle.lists.specs.Sets.{ascendingSet};
+ghost use Rattle.model.specs.Objects.{depots, hosted};
+use codec::names::ObjectId;
+
+// The set of one object.
+pub fn only(id: ObjectId) -> u8
+    requires { ⌜ (1 ≤ id .0) × (id .0 ≤ 8) ⌝ }
+    ensures { λ r. ⌜ hosted depots r ≡ id .0 ∷ [] ⌝ }
+{
+    1u8 << (id.0 - 1)
+}
+
+pub fn union(a: u8, b: u8) -> u8
+    ensures { λ r. ⌜ hosted depots r ≡ ascendingSet (hosted depots a ++ hosted depots b) ⌝ }
+{
+    a | b
+}
+
+// How many objects the set has.
+pub fn size(set: u8) -> u32
+    ensures { λ r. ⌜ r ≡ length (hosted depots set) ⌝ }
+{
+    u8::count_ones(set)
+}
