@@ -1,7 +1,10 @@
 -- Document 01's number and offset for each case of the code's refusals.
-use mathlib.Core.Option.{none, some}
+use mathlib.Core.Option.{Option, none, some}
+use Prim.Native.Nat.{ℕ}
 use Rattle.model.specs.Answers.{Refusal}
 use Rattle.answers.specs.declared.Refusal as code
+use Rattle.answers.specs.declared.Told.{Told}
+use Rattle.answers.specs.declared.Told.the-variants.{At, Nothing}
 use Rattle.answers.specs.declared.Refusal.the-variants.{Frame, BadEntry, Request, Closed, Wide, Empty, NoCommit, Decided, Full, BadReplica, FalseRecord, Waiting, NoRoom, NoRoomAt, Behind}
 
 abbrev pub refusalIn : code.Refusal → Refusal
@@ -20,3 +23,7 @@ refusalIn Waiting = record { number = 12; offset = none }
 refusalIn NoRoom = record { number = 13; offset = none }
 refusalIn (NoRoomAt o) = record { number = 13; offset = some (o .0) }
 refusalIn Behind = record { number = 14; offset = none }
+
+abbrev pub toldIn : Told → Option ℕ
+toldIn (At o) = some (o .0)
+toldIn Nothing = none

@@ -1,6 +1,6 @@
 // Document 01's answers other than done, as one enum that every call answers with.
 ghost use mathlib.Core.Path.{_≡_};
-ghost use Rattle.answers.specs.Refusals.{refusalIn};
+ghost use Rattle.answers.specs.Refusals.{refusalIn, toldIn};
 use codec::names::Offset;
 
 pub enum Refusal {
@@ -41,5 +41,33 @@ pub fn number_of(r: Refusal) -> u32
         Refusal::NoRoom => 13,
         Refusal::NoRoomAt(_) => 13,
         Refusal::Behind => 14,
+    }
+}
+
+// The offset that a refusal tells, or that it tells none.
+pub enum Told {
+    At(Offset),
+    Nothing,
+}
+
+pub fn offset_of(r: Refusal) -> Told
+    ensures { λ t. ⌜ toldIn t ≡ refusalIn r .offset ⌝ }
+{
+    match r {
+        Refusal::Frame => Told::Nothing,
+        Refusal::BadEntry(o) => Told::At(o),
+        Refusal::Request => Told::Nothing,
+        Refusal::Closed => Told::Nothing,
+        Refusal::Wide => Told::Nothing,
+        Refusal::Empty => Told::Nothing,
+        Refusal::NoCommit => Told::Nothing,
+        Refusal::Decided => Told::Nothing,
+        Refusal::Full => Told::Nothing,
+        Refusal::BadReplica => Told::Nothing,
+        Refusal::FalseRecord(o) => Told::At(o),
+        Refusal::Waiting => Told::Nothing,
+        Refusal::NoRoom => Told::Nothing,
+        Refusal::NoRoomAt(o) => Told::At(o),
+        Refusal::Behind => Told::Nothing,
     }
 }
