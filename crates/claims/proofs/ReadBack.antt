@@ -1,12 +1,11 @@
 -- What an accepted append wrote reads back as what was given: the slot at the old tail is the entry's `slotOf`, whose numbers,
 -- header objects and items the laws of slots read back; and items that came as bytes, read and stored again, are those bytes.
 use mathlib.Core.Path.{_≡_, refl, ap, ap₂, _∙_}
-use mathlib.Core.Bool.{Bool, true, false, cond, _||_}
+use mathlib.Core.Bool.{Bool, true, false, _||_}
 use mathlib.Core.List.{List, _++_}
 use mathlib.Core.Option.{none}
 use Prim.Native.Nat.{ℕ, _+_, _*_, _%_, _≤_}
 use native.Mathlib.Omega.{arith}
-use lib.Dec.{eqb}
 use lib.ListN.{length, take, drop}
 use borrow.Author.Tests.{lt-leb, eqb-true, not-false}
 use Rattle.lists.specs.Tests.{ors}
@@ -14,8 +13,8 @@ use Rattle.lists.specs.Rows.{map-values}
 use Rattle.lists.specs.Bytes.{beAt}
 use Rattle.lists.specs.Splice.{splice}
 use Rattle.model.specs.Objects.{Shape, okShape}
-use Rattle.model.specs.Entries.{Write, plain, numbered, Log, headerObjects}
-use Rattle.model.specs.Slot.{markOf, markUpdate, itemBytes, itemCount, slotOf, updateIn, logIn, logOf}
+use Rattle.model.specs.Entries.{Log, headerObjects}
+use Rattle.model.specs.Slot.{markOf, itemBytes, itemCount, slotOf, logIn, logOf}
 use Rattle.model.specs.Answers.{done, refuse, answer, frameAndEntries}
 use Rattle.model.specs.Reading.{Header, headerAt, kindIn, infoIn, entryRefusal, entryCall, stretch, orEmpty, itemList}
 use Rattle.model.specs.Append.{Request, update, commits, decides, saves, writesGiven, entryOf, notWhole, ownTests, appendRefusal}
@@ -26,6 +25,7 @@ use Rattle.laws.proofs.Stored.{given-writes, given-reads, update-items}
 use Rattle.laws.proofs.Headers.{headers-small, objects-read}
 use Rattle.laws.proofs.Refusals.{AllPass, all-pass, refuse-none}
 use Rattle.laws.proofs.Appends.{Accepted as Exit, accepted, good-kept, passed, wrote}
+use Rattle.laws.proofs.ByKind.{update-mark}
 
 -- ---- what was given
 
@@ -45,13 +45,6 @@ same-items sh log (decides o v) h bytes = refl
 same-items sh log (saves r table o) h bytes = refl
 
 -- ---- the kind
-
-pub update-mark : (n : ℕ) (ws : List Write) → markOf (updateIn n ws) ≡ markUpdate
-update-mark n ws = by (eqb n 0)
-  where
-    by : (b : Bool) → markOf (cond b (plain ws) (numbered n ws)) ≡ markUpdate
-    by true = refl
-    by false = refl
 
 kind-marked : (s : List ℕ) (q : Request) → beAt 2 s 0 ≡ markOf (entryOf q) → kindIn s ≡ kindGiven q
 unfolding entryOf

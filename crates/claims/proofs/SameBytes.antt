@@ -15,7 +15,8 @@ use Rattle.model.specs.Reading.{Info}
 use Rattle.model.specs.Append.{Request, update, commits, decides, saves, writesGiven, entryOf}
 use Rattle.model.specs.Claims.{Lent, inLog, kindGiven, infoBack, headerObjectsIn, Accepted, Back, SameBytes}
 use Rattle.laws.proofs.Slots.{length-items}
-use Rattle.claims.proofs.ReadBack.{update-mark, left-bytes, items-left, reads-back}
+use Rattle.laws.proofs.ByKind.{update-mark}
+use Rattle.claims.proofs.ReadBack.{left-bytes, items-left, reads-back}
 
 -- ---- what makes a slot
 
