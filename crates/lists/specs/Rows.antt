@@ -1,13 +1,17 @@
 -- Lists of values stored one after the other in stretches of one width: how they are read and written.
-use mathlib.Core.Path.{_≡_, refl, ap, ap₂, sym, _∙_}
+use mathlib.Core.Path.{_≡_, refl, ap, ap₂, sym, subst, _∙_}
 use mathlib.Core.Bool.{Bool, true}
-use mathlib.Core.List.{List, [], _∷_, _++_, map, append-assoc}
+use mathlib.Core.List.{List, [], _∷_, _++_, map, append-assoc, append-nil}
 use Prim.Native.Nat.{ℕ, zero, suc, _+_, _*_, _≤_, _<_}
-use native.Mathlib.Nat.{add-zero, mul-zero, mul-suc}
+use native.Mathlib.Nat.{add-zero, zero-add, mul-zero, mul-suc}
+use native.Mathlib.Numerals.{add-one}
 use native.Mathlib.Omega.{arith}
+use lib.Dec.{eqb}
 use lib.ListN.{length, getD, take, drop, length-append, List·getD-eq-default}
 use lib.Seq.{take-add, drop-drop}
-use Rattle.lists.specs.Sets.{all}
+use borrow.Author.Tests.{ne-eqb}
+use Rattle.lists.specs.Sets.{all, isEmpty}
+use Rattle.lists.specs.Splice.{splice, Filled, filled-next}
 use Rattle.lists.specs.Tests.{and-l, and-r}
 
 module _ {A : Type 0} where
@@ -47,6 +51,19 @@ module _ {A : Type 0} where
       ap₂ (λ (x : A) (xs : List A). x ∷ xs) (h i (omega arith) (omega arith))
       (values-same f g (suc i) n (λ k l m. h k (omega arith) (omega arith)))
 
+  pub isEmpty-values : (f : ℕ → A) (i n : ℕ) → isEmpty (values f i n) ≡ eqb n 0
+  unfolding values
+  isEmpty-values f i zero = refl
+  isEmpty-values f i (suc n) = sym (ne-eqb (suc n) 0 (λ e. absurd (omega arith)))
+
+  -- one value more at the end
+  pub values-snoc : (f : ℕ → A) (i n : ℕ) → values f i (suc n) ≡ values f i n ++ (f (i + n) ∷ [])
+  unfolding values
+  values-snoc f i zero = ap (λ (m : ℕ). f m ∷ []) (sym (add-zero i))
+  values-snoc f i (suc n) =
+      let e : suc i + n ≡ i + suc n = omega arith in
+      ap (λ (t : List A). f i ∷ t) (values-snoc f (suc i) n ∙ ap (λ (m : ℕ). values f (suc i) n ++ (f m ∷ [])) e)
+
 pub map-values : {A B : Type 0} (g : A → B) (f : ℕ → A) (i n : ℕ) → map g (values f i n) ≡ values (λ k. g (f k)) i n
 unfolding values
 map-values g f i zero = refl
@@ -54,12 +71,32 @@ map-values g f i (suc n) = ap (λ t. g (f i) ∷ t) (map-values g f (suc i) n)
 
 -- ---- values stored in stretches of w bytes each
 
+pub joined-append : {A : Type 0} (put : A → List ℕ) (xs ys : List A) → joined put (xs ++ ys) ≡ joined put xs ++ joined put ys
+unfolding joined
+joined-append put [] ys = refl
+joined-append put (x ∷ xs) ys =
+    ap (λ t. put x ++ t) (joined-append put xs ys) ∙ sym (append-assoc (put x) (joined put xs) (joined put ys))
+
 module _ {A : Type 0} (put : A → List ℕ) (w : ℕ) where
   pub length-joined : ((x : A) → length (put x) ≡ w) → (xs : List A) → length (joined put xs) ≡ w * length xs
   unfolding joined
   length-joined size [] = sym (mul-zero w)
   length-joined size (x ∷ xs) =
       omega (arith, length-append (put x) (joined put xs), size x, length-joined size xs, mul-suc w (length xs))
+
+  -- one value more, stored right after the others
+  pub filled-row : (g : ℕ → A) (k : ℕ) {xs ws vs : List ℕ} → Filled xs (w * k) (joined put (values g 0 k)) ws → vs ≡ splice ws (w * k) (put (g k))
+      → length (put (g k)) ≡ w → w * (k + 1) ≤ length xs → Filled xs (w * (k + 1)) (joined put (values g 0 (k + 1))) vs
+  unfolding joined
+  filled-row g k {xs} {ws} {vs} f e size room =
+      let n : w * (k + 1) ≡ w * k + w = rw add-one (omega (arith, mul-suc w k)) in
+      let l : joined put (values g 0 k) ++ put (g k) ≡ joined put (values g 0 (k + 1)) =
+      ap (λ (t : List ℕ). joined put (values g 0 k) ++ t) (sym (append-nil (put (g k))))
+      ∙ ap (λ (m : ℕ). joined put (values g 0 k) ++ joined put (g m ∷ [])) (sym (zero-add k))
+      ∙ sym (joined-append put (values g 0 k) (g (0 + k) ∷ []))
+      ∙ ap (joined put) (sym (values-snoc g 0 k))
+      ∙ ap (λ (m : ℕ). joined put (values g 0 m)) (sym (add-one k)) in
+      subst (λ (t : List ℕ). Filled xs (w * (k + 1)) t vs) l (filled-next (w * (k + 1)) (put (g k)) f e (omega arith) room)
 
 module _ {A : Type 0} (put : A → List ℕ) (get : List ℕ → ℕ → A) (w : ℕ) where
   -- what was stored is read back
