@@ -1,2 +1,5 @@
 pub mod Rows
+pub mod RowLaws
+pub mod Stored
+pub mod Apply
 pub mod Places

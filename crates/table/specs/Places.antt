@@ -1,13 +1,20 @@
 -- A place for each cell of the eight objects, and an index of rows by place.
-use mathlib.Core.Path.{_≡_}
-use mathlib.Core.Bool.{true, cond}
+use mathlib.Core.Path.{_≡_, refl, ap, sym, _∙_}
+use mathlib.Core.Bool.{Bool, true, false, cond, _&&_, _||_}
 use mathlib.Core.List.{List, [], _∷_}
-use Prim.Native.Nat.{ℕ, _+_, _-_}
-use lib.Dec.{eqb}
-use lib.ListN.{length, getD}
+use Prim.Native.Nat.{ℕ, zero, suc, _+_, _-_, _*_, _/_, _%_, _≤_, _<_}
+use native.Mathlib.Omega.{arith}
+use lib.Dec.{eqb, leb, eqb·suc-zero}
+use lib.ListN.{length, getD, set, replicate, length-set, length-replicate, getD-replicate}
+use lib.Seq.{getD-set-same, getD-set-other}
+use borrow.Author.Tests.{eqb-true, eq-eqb, leb-true, le-leb}
+use Rattle.lists.specs.Tests.{and-l, and-r, both, clash, or-case}
+use Rattle.lists.specs.First.{first, firstFrom, every-below}
 use Rattle.model.specs.Objects.{depots, isCell}
-use Rattle.model.specs.Table.{Cell}
-use Rattle.table.specs.Rows.{rowIn}
+use Rattle.model.specs.Table.{Cell, isOf}
+use Rattle.codec.specs.Table.{at, cell-in, cell-out}
+use Rattle.table.specs.Rows.{further, rowIn}
+use Rattle.table.specs.RowLaws.{is-of}
 
 -- the place of each object's first cell
 abbrev pub firsts : List ℕ
@@ -24,3 +31,105 @@ movedBy n i = cond (eqb i 0) 0 (n + i)
 pub record Index (cs : List Cell) (n : ℕ) (index : List ℕ) : Type 0 where
   pub size : length index ≡ 21503
   pub at : (o k : ℕ) → isCell depots o k ≡ true → getD index (placeOf o k) 0 ≡ movedBy n (rowIn cs o k)
+
+-- ---- places are apart
+
+-- a cell's object is one of the eight, and its key is at most the highest
+cell-bounds : (o k : ℕ) → isCell depots o k ≡ true → (1 ≤ o) × (o ≤ 8) × (k ≤ at (o - 1) .highest)
+cell-bounds o k e = go (leb 1 o && leb o 8) refl
+  where
+    go : (b : Bool) → (leb 1 o && leb o 8) ≡ b → (1 ≤ o) × (o ≤ 8) × (k ≤ at (o - 1) .highest)
+    go true t =
+        let l : 1 ≤ o = leb-true 1 o (and-l (leb 1 o) (leb o 8) t) in
+        let m : o ≤ 8 = leb-true o 8 (and-r (leb 1 o) (leb o 8) t) in
+        (l, m, leb-true k (at (o - 1) .highest) (sym (cell-in k o l m) ∙ e))
+    go false t = clash (isCell depots o k) e (cell-out o (λ l m. clash (leb 1 o && leb o 8) (both (le-leb 1 o l) (le-leb o 8 m)) t) k)
+
+-- the place after the last of the object that stands at place p of the table
+abbrev past : ℕ → ℕ
+past p = getD firsts p 0 + at p .highest + 1
+
+belowRule : ℕ → Bool
+belowRule p = leb (past p) 21503
+
+below-right : (p : ℕ) → p < 8 → belowRule p ≡ true
+unfolding belowRule first firstFrom
+below-right = every-below belowRule 8 refl
+
+pub place-below : (o k : ℕ) → isCell depots o k ≡ true → placeOf o k < 21503
+unfolding belowRule
+place-below o k e =
+    let b = cell-bounds o k e in
+    let h : past (o - 1) ≤ 21503 = leb-true (past (o - 1)) 21503 (below-right (o - 1) (omega (arith, b .0, b .1))) in
+    omega (arith, b .2)
+
+-- of two objects one has all its places before the other's first; the two are k / 8 and k % 8
+apartRule : ℕ → Bool
+apartRule k = eqb (k / 8) (k % 8) || leb (past (k / 8)) (getD firsts (k % 8) 0) || leb (past (k % 8)) (getD firsts (k / 8) 0)
+
+apart-right : (k : ℕ) → k < 64 → apartRule k ≡ true
+unfolding apartRule first firstFrom
+apart-right = every-below apartRule 64 refl
+
+apart : (p q : ℕ) → p < 8 → q < 8 → (eqb p q || leb (past p) (getD firsts q 0) || leb (past q) (getD firsts p 0)) ≡ true
+unfolding apartRule
+apart p q l m =
+    let k : ℕ = p * 8 + q in
+    let a : k / 8 ≡ p = omega arith in
+    let b : k % 8 ≡ q = omega arith in
+    let h : apartRule k ≡ true = apart-right k (omega arith) in
+    rw (a, b) at h
+
+pub place-apart : (o k o′ k′ : ℕ) → isCell depots o k ≡ true → isCell depots o′ k′ ≡ true → placeOf o k ≡ placeOf o′ k′ → (o ≡ o′) × (k ≡ k′)
+place-apart o k o′ k′ c c′ e =
+    let b = cell-bounds o k c in
+    let b′ = cell-bounds o′ k′ c′ in
+    let p : ℕ = o - 1 in
+    let q : ℕ = o′ - 1 in
+    or-case (eqb p q || leb (past p) (getD firsts q 0)) (leb (past q) (getD firsts p 0)) (apart p q (omega (arith, b .0, b .1)) (omega (arith, b′ .0, b′ .1)))
+    (λ t. or-case (eqb p q) (leb (past p) (getD firsts q 0)) t
+    (λ u.
+    let s : p ≡ q = eqb-true p q u in
+    let f : getD firsts p 0 ≡ getD firsts q 0 = ap (λ (m : ℕ). getD firsts m 0) s in
+    (omega (arith, s, b .0, b′ .0), omega (arith, f, e)))
+    (λ u. absurd (omega (arith, leb-true (past p) (getD firsts q 0) u, b .2, e))))
+    (λ t. absurd (omega (arith, leb-true (past q) (getD firsts p 0) t, b′ .2, e)))
+
+-- ---- the index of rows
+
+-- an index of none
+pub index-none : (n : ℕ) → Index [] n (replicate 21503 0)
+unfolding rowIn
+index-none n = record { size = length-replicate {A = ℕ} 21503 0; at = λ o k c. getD-replicate {A = ℕ} 21503 (placeOf o k) 0 0 (place-below o k c) }
+
+moved-further : (n r : ℕ) → movedBy n (further r) ≡ movedBy (n + 1) r
+moved-further n zero = refl
+moved-further n (suc r) = rw (eqb·suc-zero (suc r), eqb·suc-zero r) (omega arith)
+
+module _ {c : Cell} {cs : List Cell} {n : ℕ} {index : List ℕ} (x : Index cs (n + 1) index) where
+  -- a row in front that is of no cell
+  pub index-skip : isCell depots c.object c.key ≡ false → Index (c ∷ cs) n index
+  unfolding rowIn
+  index-skip out = record { size = x .size; at = λ o k i. x .at o k i ∙ go o k i (isOf o k c) refl }
+    where
+      go : (o k : ℕ) → isCell depots o k ≡ true → (b : Bool) → isOf o k c ≡ b → movedBy (n + 1) (rowIn cs o k) ≡ movedBy n (cond b 1 (further (rowIn cs o k)))
+      go o k i true e = let w = is-of c o k e in clash (isCell depots o k) i (sym (λ j. isCell depots (w .0 j) (w .1 j)) ∙ out)
+      go o k i false e = sym (moved-further n (rowIn cs o k))
+
+  -- a row in front that is of a cell
+  pub index-row : isCell depots c.object c.key ≡ true → Index (c ∷ cs) n (set index (placeOf c.object c.key) (n + 1))
+  unfolding rowIn
+  index-row inside = record { size = length-set index (placeOf c.object c.key) (n + 1) ∙ x .size; at = λ o k i. go o k i (isOf o k c) refl }
+    where
+      go : (o k : ℕ) → isCell depots o k ≡ true → (b : Bool) → isOf o k c ≡ b
+          → getD (set index (placeOf c.object c.key) (n + 1)) (placeOf o k) 0 ≡ movedBy n (cond b 1 (further (rowIn cs o k)))
+      go o k i true e =
+          let w = is-of c o k e in
+          let s : placeOf o k ≡ placeOf c.object c.key = sym (λ j. placeOf (w .0 j) (w .1 j)) in
+          ap (λ (m : ℕ). getD (set index (placeOf c.object c.key) (n + 1)) m 0) s
+          ∙ getD-set-same index (placeOf c.object c.key) (n + 1) 0 (omega (arith, place-below (c .object) (c .key) inside, x .size))
+      go o k i false e =
+          getD-set-other index (placeOf c.object c.key) (placeOf o k) (n + 1) 0
+          (λ s. let w = place-apart (c .object) (c .key) o k inside i (sym s) in
+          clash (isOf o k c) (both (eq-eqb (c .object) o (w .0)) (eq-eqb (c .key) k (w .1))) e)
+          ∙ x .at o k i ∙ sym (moved-further n (rowIn cs o k))
