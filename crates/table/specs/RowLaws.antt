@@ -6,9 +6,9 @@ use mathlib.Core.List.{List, [], _∷_, _++_}
 use mathlib.Core.Option.{Option, none, some}
 use Prim.Native.Nat.{ℕ, zero, suc, _+_, _≤_, _<_}
 use native.Mathlib.Omega.{arith}
-use lib.Dec.{eqb, eqb·suc-zero}
+use lib.Dec.{eqb, ltb, eqb·suc-zero}
 use lib.ListN.{length, getD, set, length-append, length-set}
-use borrow.Author.Tests.{eq-eqb, eqb-true}
+use borrow.Author.Tests.{eq-eqb, eqb-true, lt-ltb, le-ltb}
 use Rattle.lists.specs.Tests.{and-l, and-r, both}
 use Rattle.lists.specs.Sets.{all}
 use Rattle.lists.specs.Rows.{values}
@@ -148,6 +148,23 @@ length-store cs o k h = go (rowIn cs o k) refl
     go : (r : ℕ) → rowIn cs o k ≡ r → length (store cs o k h) ≡ cond (eqb r 0) (length cs + 1) (length cs)
     go zero e = ap length (store-new cs o k h e) ∙ length-append cs (cellOf o k h ∷ [])
     go (suc i) e = rw (eqb·suc-zero i) (ap length (store-old cs o k h i e) ∙ length-set cs i (cellOf o k h))
+
+-- the same by the row that the stored cell then has
+pub length-by-row : (cs : List Cell) (o k : ℕ) (h : Held)
+    → length (store cs o k h) ≡ cond (ltb (length cs) (rowIn (store cs o k h) o k)) (length cs + 1) (length cs)
+length-by-row cs o k h = rw (row-store cs o k h, length-store cs o k h) (go (rowIn cs o k) (row-le cs o k))
+  where
+    go : (r : ℕ) → r ≤ length cs → cond (eqb r 0) (length cs + 1) (length cs) ≡ cond (ltb (length cs) (orLast (length cs) r)) (length cs + 1) (length cs)
+    go zero l = rw (lt-ltb (length cs) (suc (length cs)) (omega arith))
+    go (suc i) l = rw (eqb·suc-zero i, le-ltb (length cs) (suc i) l)
+
+-- it has one
+pub row-stored : (cs : List Cell) (o k : ℕ) (h : Held) → 1 ≤ rowIn (store cs o k h) o k
+row-stored cs o k h = rw (row-store cs o k h) (go (rowIn cs o k))
+  where
+    go : (r : ℕ) → 1 ≤ orLast (length cs) r
+    go zero = omega arith
+    go (suc r) = omega arith
 
 pub store-grows : (cs : List Cell) (o k : ℕ) (h : Held) → length cs ≤ length (store cs o k h)
 store-grows cs o k h = rw (length-store cs o k h) (go (eqb (rowIn cs o k) 0))

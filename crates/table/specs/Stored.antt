@@ -1,9 +1,11 @@
 -- The bytes of a table after a cell is stored: one row put in is the table with the cells after the store. A row that is there
 -- is replaced between those before and after it, a new one follows the last.
 use mathlib.Core.Path.{_≡_, refl, ap, ap₂, sym, _∙_}
-use mathlib.Core.Bool.{true, not}
+use mathlib.Core.Bool.{Bool, true, not, cond}
+use mathlib.Core.Option.{some}
 use mathlib.Core.List.{List, [], _∷_, _++_, append-assoc}
 use Prim.Native.Nat.{ℕ, zero, suc, _+_, _-_, _*_, _^_, _≤_, _<_}
+use native.Mathlib.Nat.{zero-add}
 use native.Mathlib.Omega.{arith}
 use lib.Dec.{ltb}
 use lib.ListN.{length, getD, take, drop, set, length-append, length-set, length-drop}
@@ -12,16 +14,30 @@ use borrow.Author.Tests.{lt-ltb, ltb-true}
 use Rattle.lists.specs.Tests.{both}
 use Rattle.lists.specs.Sets.{all, all-getD}
 use Rattle.lists.specs.Bytes.{beAt, bytesOf, beAt-lt, length-bytesOf}
-use Rattle.lists.specs.Rows.{joined, joined-append}
+use Rattle.lists.specs.Rows.{values, joined, length-values, getD-values, joined-append}
 use Rattle.lists.specs.First.{seeking-from}
 use Rattle.lists.specs.Every.{failing, every-all}
 use Rattle.lists.specs.Splice.{splice, splice-then}
 use Rattle.model.specs.Entries.{Held}
-use Rattle.model.specs.Table.{Cell, cellAt, cellBytes, cellsOf, tableWith, cellOf, store}
+use Rattle.model.specs.Table.{Cell, cellAt, cellBytes, cellsOf, tableWith, heldBy, lookup, cellOf, store}
 use Rattle.laws.proofs.Items.{fitsCell, length-cell}
 use Rattle.laws.proofs.Tables.{length-cells, length-stored, cells-back, table-back}
+use Rattle.laws.proofs.Stored.{bytes-all}
 use Rattle.table.specs.Rows.{rowIn}
-use Rattle.table.specs.RowLaws.{row-some, store-new, store-old, row-store-new, row-store-old, all-store}
+use Rattle.table.specs.RowLaws.{row-some, store-new, store-old, row-store-new, row-store-old, length-by-row, all-store}
+
+-- what a counted row holds
+pub row-held : (t : List ℕ) (count row o k : ℕ) → row ≡ rowIn (cellsOf t count) o k → 1 ≤ row
+    → (row ≤ count) × (lookup (cellsOf t count) o k ≡ some (heldBy (cellAt t (24 * (row - 1)))))
+unfolding cellsOf
+row-held t count row o k e l =
+    let g : ℕ → Cell = λ i. cellAt t (24 * i) in
+    let i : ℕ = row - 1 in
+    let r : rowIn (values g 0 count) o k ≡ suc i = omega (arith, e) in
+    let h = row-some (values g 0 count) o k i (g 0) r in
+    let n : length (values g 0 count) ≡ count = length-values g 0 count in
+    let u : i < count = omega (arith, h .0, n) in
+    (omega (arith, u), h .1 ∙ ap (λ (c : Cell). some (heldBy c)) (getD-values g 0 count i (g 0) u ∙ ap g (zero-add i)))
 
 -- a stretch in the middle replaced by one as long
 splice-mid : (a b b′ z : List ℕ) (i : ℕ) → length a ≡ i → length b ≡ length b′ → splice (a ++ b ++ z) i b′ ≡ a ++ b′ ++ z
@@ -103,8 +119,9 @@ module _ (t : List ℕ) (bytes : all (λ x. ltb x 256) t ≡ true) (count : ℕ)
           rw (at, store-old (cellsOf t count) o k h i e)
           (row-replaced i (cellOf o k h) (omega (arith, row-some (cellsOf t count) o k i (cellOf o k h) e .0, length-cells t count)))
 
-  -- ---- the cells then
+-- ---- the cells then
 
+module _ (t : List ℕ) (bytes : all (λ x. ltb x 256) t ≡ true) (count : ℕ) where
   cell-fits : (i : ℕ) → fitsCell (cellAt t i) ≡ true
   unfolding cellAt
   cell-fits i = both (both (both (both (field 4 i) (field 4 (i + 4))) (field 4 (i + 8))) (field 4 (i + 12))) (field 8 (i + 16))
@@ -114,7 +131,9 @@ module _ (t : List ℕ) (bytes : all (λ x. ltb x 256) t ≡ true) (count : ℕ)
 
   pub cells-fit : all fitsCell (cellsOf t count) ≡ true
   unfolding cellsOf
-  cells-fit = every-all fitsCell (λ i. cellAt t (24 * i)) (seeking-from (failing fitsCell (λ i. cellAt t (24 * i))) count count (omega arith) (λ i l. ap not (cell-fits (24 * i)))) (omega arith)
+  cells-fit =
+      every-all fitsCell (λ i. cellAt t (24 * i))
+      (seeking-from (failing fitsCell (λ i. cellAt t (24 * i))) count count (omega arith) (λ i l. ap not (cell-fits (24 * i)))) (omega arith)
 
   -- they are read back as they were stored
   pub stored-back : (o k : ℕ) (h : Held) → fitsCell (cellOf o k h) ≡ true
@@ -140,3 +159,19 @@ table-again t cs ds h =
     ∙ ap (drop n) (drop-at (joined cellBytes cs) (drop (24 * length cs) t) (24 * length cs) (length-stored cs))
     ∙ drop-drop n (24 * length cs) t
     ∙ ap (λ (m : ℕ). drop m t) (sym e))
+
+-- ---- a call that stores a cell: the count and the bytes that it leaves
+
+pub cell-written : (t : List ℕ) (count row o k : ℕ) (h : Held) → ((j : ℕ) → getD t j 0 < 256) → 24 * count ≤ length t
+    → rowIn (store (cellsOf t count) o k h) o k ≡ row → (t′ : List ℕ) → t′ ≡ splice t (24 * (row - 1)) (cellBytes (cellOf o k h))
+    → (b : Bool) → ltb count row ≡ b
+    → _≡_ {A = ℕ × List ℕ} (cond b (count + 1) count, t′) (length (store (cellsOf t count) o k h), tableWith t (store (cellsOf t count) o k h))
+cell-written t count row o k h small room e t′ f b u =
+    let cs = cellsOf t count in
+    let n : length cs ≡ count = length-cells t count in
+    let v : ltb (length cs) (rowIn (store cs o k h) o k) ≡ b = ap₂ ltb n e ∙ u in
+    let size : cond b (count + 1) count ≡ length (store cs o k h) =
+    sym (length-by-row cs o k h ∙ (λ j. cond (v j) (n j + 1) (n j))) in
+    let left : t′ ≡ tableWith t (store cs o k h) =
+    f ∙ ap (λ (r : ℕ). splice t (24 * (r - 1)) (cellBytes (cellOf o k h))) (sym e) ∙ cell-stored t (bytes-all t (λ j l. small j)) count room o k h in
+    λ j. (size j, left j)
