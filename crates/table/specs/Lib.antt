@@ -3,3 +3,4 @@ pub mod RowLaws
 pub mod Stored
 pub mod Apply
 pub mod Places
+pub mod IndexLaws

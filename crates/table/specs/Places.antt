@@ -1,20 +1,19 @@
--- A place for each cell of the eight objects, and an index of rows by place.
+-- A place for each cell of the eight objects, and an index of rows by place. Two cells have different places, below 21503: the
+-- places of the eight objects are compared by computation.
 use mathlib.Core.Path.{_≡_, refl, ap, sym, _∙_}
 use mathlib.Core.Bool.{Bool, true, false, cond, _&&_, _||_}
 use mathlib.Core.List.{List, [], _∷_}
-use Prim.Native.Nat.{ℕ, zero, suc, _+_, _-_, _*_, _/_, _%_, _≤_, _<_}
+use Prim.Native.Nat.{ℕ, _+_, _-_, _*_, _/_, _%_, _≤_, _<_}
 use native.Mathlib.Omega.{arith}
-use lib.Dec.{eqb, leb, eqb·suc-zero}
-use lib.ListN.{length, getD, set, replicate, length-set, length-replicate, getD-replicate}
-use lib.Seq.{getD-set-same, getD-set-other}
-use borrow.Author.Tests.{eqb-true, eq-eqb, leb-true, le-leb}
+use lib.Dec.{eqb, leb}
+use lib.ListN.{length, getD}
+use borrow.Author.Tests.{eqb-true, leb-true, le-leb}
 use Rattle.lists.specs.Tests.{and-l, and-r, both, clash, or-case}
 use Rattle.lists.specs.First.{first, firstFrom, every-below}
 use Rattle.model.specs.Objects.{depots, isCell}
-use Rattle.model.specs.Table.{Cell, isOf}
+use Rattle.model.specs.Table.{Cell}
 use Rattle.codec.specs.Table.{at, cell-in, cell-out}
-use Rattle.table.specs.Rows.{further, rowIn}
-use Rattle.table.specs.RowLaws.{is-of}
+use Rattle.table.specs.Rows.{rowIn}
 
 -- the place of each object's first cell
 abbrev pub firsts : List ℕ
@@ -35,7 +34,7 @@ pub record Index (cs : List Cell) (n : ℕ) (index : List ℕ) : Type 0 where
 -- ---- places are apart
 
 -- a cell's object is one of the eight, and its key is at most the highest
-cell-bounds : (o k : ℕ) → isCell depots o k ≡ true → (1 ≤ o) × (o ≤ 8) × (k ≤ at (o - 1) .highest)
+pub cell-bounds : (o k : ℕ) → isCell depots o k ≡ true → (1 ≤ o) × (o ≤ 8) × (k ≤ at (o - 1) .highest)
 cell-bounds o k e = go (leb 1 o && leb o 8) refl
   where
     go : (b : Bool) → (leb 1 o && leb o 8) ≡ b → (1 ≤ o) × (o ≤ 8) × (k ≤ at (o - 1) .highest)
@@ -94,42 +93,3 @@ place-apart o k o′ k′ c c′ e =
     (omega (arith, s, b .0, b′ .0), omega (arith, f, e)))
     (λ u. absurd (omega (arith, leb-true (past p) (getD firsts q 0) u, b .2, e))))
     (λ t. absurd (omega (arith, leb-true (past q) (getD firsts p 0) t, b′ .2, e)))
-
--- ---- the index of rows
-
--- an index of none
-pub index-none : (n : ℕ) → Index [] n (replicate 21503 0)
-unfolding rowIn
-index-none n = record { size = length-replicate {A = ℕ} 21503 0; at = λ o k c. getD-replicate {A = ℕ} 21503 (placeOf o k) 0 0 (place-below o k c) }
-
-moved-further : (n r : ℕ) → movedBy n (further r) ≡ movedBy (n + 1) r
-moved-further n zero = refl
-moved-further n (suc r) = rw (eqb·suc-zero (suc r), eqb·suc-zero r) (omega arith)
-
-module _ {c : Cell} {cs : List Cell} {n : ℕ} {index : List ℕ} (x : Index cs (n + 1) index) where
-  -- a row in front that is of no cell
-  pub index-skip : isCell depots c.object c.key ≡ false → Index (c ∷ cs) n index
-  unfolding rowIn
-  index-skip out = record { size = x .size; at = λ o k i. x .at o k i ∙ go o k i (isOf o k c) refl }
-    where
-      go : (o k : ℕ) → isCell depots o k ≡ true → (b : Bool) → isOf o k c ≡ b → movedBy (n + 1) (rowIn cs o k) ≡ movedBy n (cond b 1 (further (rowIn cs o k)))
-      go o k i true e = let w = is-of c o k e in clash (isCell depots o k) i (sym (λ j. isCell depots (w .0 j) (w .1 j)) ∙ out)
-      go o k i false e = sym (moved-further n (rowIn cs o k))
-
-  -- a row in front that is of a cell
-  pub index-row : isCell depots c.object c.key ≡ true → Index (c ∷ cs) n (set index (placeOf c.object c.key) (n + 1))
-  unfolding rowIn
-  index-row inside = record { size = length-set index (placeOf c.object c.key) (n + 1) ∙ x .size; at = λ o k i. go o k i (isOf o k c) refl }
-    where
-      go : (o k : ℕ) → isCell depots o k ≡ true → (b : Bool) → isOf o k c ≡ b
-          → getD (set index (placeOf c.object c.key) (n + 1)) (placeOf o k) 0 ≡ movedBy n (cond b 1 (further (rowIn cs o k)))
-      go o k i true e =
-          let w = is-of c o k e in
-          let s : placeOf o k ≡ placeOf c.object c.key = sym (λ j. placeOf (w .0 j) (w .1 j)) in
-          ap (λ (m : ℕ). getD (set index (placeOf c.object c.key) (n + 1)) m 0) s
-          ∙ getD-set-same index (placeOf c.object c.key) (n + 1) 0 (omega (arith, place-below (c .object) (c .key) inside, x .size))
-      go o k i false e =
-          getD-set-other index (placeOf c.object c.key) (placeOf o k) (n + 1) 0
-          (λ s. let w = place-apart (c .object) (c .key) o k inside i (sym s) in
-          clash (isOf o k c) (both (eq-eqb (c .object) o (w .0)) (eq-eqb (c .key) k (w .1))) e)
-          ∙ x .at o k i ∙ sym (moved-further n (rowIn cs o k))

@@ -3,7 +3,7 @@
 use mathlib.Core.Path.{_≡_, refl, ap, sym, _∙_}
 use mathlib.Core.Bool.{Bool, true, false, cond, _&&_}
 use mathlib.Core.List.{List, [], _∷_, _++_}
-use mathlib.Core.Option.{Option, none, some}
+use mathlib.Core.Option.{none, some}
 use Prim.Native.Nat.{ℕ, zero, suc, _+_, _≤_, _<_}
 use native.Mathlib.Omega.{arith}
 use lib.Dec.{eqb, ltb, eqb·suc-zero}
@@ -130,16 +130,30 @@ row-store-other (c ∷ cs) o k h o′ k′ d = go (isOf o k c) refl (row-store-o
     go true e ih = ap (λ (t : Bool). cond t 1 (further (rowIn cs o′ k′))) (sym (λ j. eqb (is-of c o k e .0 j) o′ && eqb (is-of c o k e .1 j) k′))
     go false e ih = ap (λ (r : ℕ). cond (isOf o′ k′ c) 1 (further r)) ih
 
+pub same-cell : (o k o′ k′ : ℕ) (P : ℕ → ℕ → Type 0) → (eqb o o′ && eqb k k′) ≡ true → P o k → P o′ k′
+same-cell o k o′ k′ P e x =
+    let p : o ≡ o′ = eqb-true o o′ (and-l (eqb o o′) (eqb k k′) e) in
+    let q : k ≡ k′ = eqb-true k k′ (and-r (eqb o o′) (eqb k k′) e) in
+    rw (← p, ← q) x
+
+-- what the other cells and the stored one have after the store, any cell has
+row-store-any : (cs : List Cell) (o k : ℕ) (h : Held) (o′ k′ : ℕ) (P : ℕ → ℕ → Type 0)
+    → (rowIn (store cs o k h) o′ k′ ≡ rowIn cs o′ k′ → P o′ k′) → P o k → P o′ k′
+row-store-any cs o k h o′ k′ P other x = go (eqb o o′ && eqb k k′) refl
+  where
+    go : (b : Bool) → (eqb o o′ && eqb k k′) ≡ b → P o′ k′
+    go true e = same-cell o k o′ k′ P e x
+    go false e = other (row-store-other cs o k h o′ k′ e)
+
 -- a cell with a row keeps it
 pub row-stays : (cs : List Cell) (o k : ℕ) (h : Held) (o′ k′ i : ℕ) → rowIn cs o′ k′ ≡ suc i → rowIn (store cs o k h) o′ k′ ≡ suc i
-row-stays cs o k h o′ k′ i e = go (eqb o o′ && eqb k k′) refl
-  where
-    go : (b : Bool) → (eqb o o′ && eqb k k′) ≡ b → rowIn (store cs o k h) o′ k′ ≡ suc i
-    go true t =
-        let p : o ≡ o′ = eqb-true o o′ (and-l (eqb o o′) (eqb k k′) t) in
-        let q : k ≡ k′ = eqb-true k k′ (and-r (eqb o o′) (eqb k k′) t) in
-        rw (p, q) (row-store-old cs o′ k′ h i e)
-    go false t = row-store-other cs o k h o′ k′ t ∙ e
+row-stays cs o k h o′ k′ i =
+    row-store-any cs o k h o′ k′ (λ a b. rowIn cs a b ≡ suc i → rowIn (store cs o k h) a b ≡ suc i) (λ s e. s ∙ e) (row-store-old cs o k h i)
+
+-- where the stored cell has a row, all rows are kept
+pub row-kept : (cs : List Cell) (o k : ℕ) (h : Held) (i : ℕ) → rowIn cs o k ≡ suc i → (o′ k′ : ℕ) → rowIn (store cs o k h) o′ k′ ≡ rowIn cs o′ k′
+row-kept cs o k h i e o′ k′ =
+    row-store-any cs o k h o′ k′ (λ a b. rowIn (store cs o k h) a b ≡ rowIn cs a b) (λ s. s) (row-store-old cs o k h i e ∙ sym e)
 
 -- how many cells there are then
 pub length-store : (cs : List Cell) (o k : ℕ) (h : Held) → length (store cs o k h) ≡ cond (eqb (rowIn cs o k) 0) (length cs + 1) (length cs)

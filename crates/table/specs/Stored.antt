@@ -119,6 +119,22 @@ module _ (t : List ℕ) (bytes : all (λ x. ltb x 256) t ≡ true) (count : ℕ)
           rw (at, store-old (cellsOf t count) o k h i e)
           (row-replaced i (cellOf o k h) (omega (arith, row-some (cellsOf t count) o k i (cellOf o k h) e .0, length-cells t count)))
 
+-- ---- a call that stores a cell: the count and the bytes that it leaves
+
+pub cell-written : (t : List ℕ) (count row o k : ℕ) (h : Held) → ((j : ℕ) → getD t j 0 < 256) → 24 * count ≤ length t
+    → rowIn (store (cellsOf t count) o k h) o k ≡ row → (t′ : List ℕ) → t′ ≡ splice t (24 * (row - 1)) (cellBytes (cellOf o k h))
+    → (b : Bool) → ltb count row ≡ b
+    → _≡_ {A = ℕ × List ℕ} (cond b (count + 1) count, t′) (length (store (cellsOf t count) o k h), tableWith t (store (cellsOf t count) o k h))
+cell-written t count row o k h small room e t′ f b u =
+    let cs = cellsOf t count in
+    let n : length cs ≡ count = length-cells t count in
+    let v : ltb (length cs) (rowIn (store cs o k h) o k) ≡ b = ap₂ ltb n e ∙ u in
+    let size : cond b (count + 1) count ≡ length (store cs o k h) =
+    sym (length-by-row cs o k h ∙ (λ j. cond (v j) (n j + 1) (n j))) in
+    let left : t′ ≡ tableWith t (store cs o k h) =
+    f ∙ ap (λ (r : ℕ). splice t (24 * (r - 1)) (cellBytes (cellOf o k h))) (sym e) ∙ cell-stored t (bytes-all t (λ j l. small j)) count room o k h in
+    λ j. (size j, left j)
+
 -- ---- the cells then
 
 module _ (t : List ℕ) (bytes : all (λ x. ltb x 256) t ≡ true) (count : ℕ) where
@@ -159,19 +175,3 @@ table-again t cs ds h =
     ∙ ap (drop n) (drop-at (joined cellBytes cs) (drop (24 * length cs) t) (24 * length cs) (length-stored cs))
     ∙ drop-drop n (24 * length cs) t
     ∙ ap (λ (m : ℕ). drop m t) (sym e))
-
--- ---- a call that stores a cell: the count and the bytes that it leaves
-
-pub cell-written : (t : List ℕ) (count row o k : ℕ) (h : Held) → ((j : ℕ) → getD t j 0 < 256) → 24 * count ≤ length t
-    → rowIn (store (cellsOf t count) o k h) o k ≡ row → (t′ : List ℕ) → t′ ≡ splice t (24 * (row - 1)) (cellBytes (cellOf o k h))
-    → (b : Bool) → ltb count row ≡ b
-    → _≡_ {A = ℕ × List ℕ} (cond b (count + 1) count, t′) (length (store (cellsOf t count) o k h), tableWith t (store (cellsOf t count) o k h))
-cell-written t count row o k h small room e t′ f b u =
-    let cs = cellsOf t count in
-    let n : length cs ≡ count = length-cells t count in
-    let v : ltb (length cs) (rowIn (store cs o k h) o k) ≡ b = ap₂ ltb n e ∙ u in
-    let size : cond b (count + 1) count ≡ length (store cs o k h) =
-    sym (length-by-row cs o k h ∙ (λ j. cond (v j) (n j + 1) (n j))) in
-    let left : t′ ≡ tableWith t (store cs o k h) =
-    f ∙ ap (λ (r : ℕ). splice t (24 * (r - 1)) (cellBytes (cellOf o k h))) (sym e) ∙ cell-stored t (bytes-all t (λ j l. small j)) count room o k h in
-    λ j. (size j, left j)
