@@ -1,0 +1,177 @@
+-- The bytes of a table after a cell is stored: one row put in is the table with the cells after the store. A row that is there
+-- is replaced between those before and after it, a new one follows the last.
+use mathlib.Core.Path.{_≡_, refl, ap, ap₂, sym, _∙_}
+use mathlib.Core.Bool.{Bool, true, not, cond}
+use mathlib.Core.Option.{some}
+use mathlib.Core.List.{List, [], _∷_, _++_, append-assoc}
+use Prim.Native.Nat.{ℕ, zero, suc, _+_, _-_, _*_, _^_, _≤_, _<_}
+use native.Mathlib.Nat.{zero-add}
+use native.Mathlib.Omega.{arith}
+use lib.Dec.{ltb}
+use lib.ListN.{length, getD, take, drop, set, length-append, length-set, length-drop}
+use lib.Seq.{drop-at, take-at, split-at, set-split, length-take-le, drop-drop}
+use borrow.Author.Tests.{lt-ltb, ltb-true}
+use Rattle.lists.specs.Tests.{both}
+use Rattle.lists.specs.Sets.{all, all-getD}
+use Rattle.lists.specs.Bytes.{beAt, bytesOf, beAt-lt, length-bytesOf}
+use Rattle.lists.specs.Rows.{values, joined, length-values, getD-values, joined-append}
+use Rattle.lists.specs.First.{seeking-from}
+use Rattle.lists.specs.Every.{failing, every-all}
+use Rattle.lists.specs.Splice.{splice, splice-then}
+use Rattle.model.specs.Entries.{Held}
+use Rattle.model.specs.Table.{Cell, cellAt, cellBytes, cellsOf, tableWith, heldBy, lookup, cellOf, store}
+use Rattle.laws.proofs.Items.{fitsCell, length-cell}
+use Rattle.laws.proofs.Tables.{length-cells, length-stored, cells-back, table-back}
+use Rattle.laws.proofs.Stored.{bytes-all}
+use Rattle.table.specs.Rows.{rowIn}
+use Rattle.table.specs.RowLaws.{row-some, store-new, store-old, row-store-new, row-store-old, length-by-row, all-store}
+
+-- what a counted row holds
+pub row-held : (t : List ℕ) (count row o k : ℕ) → row ≡ rowIn (cellsOf t count) o k → 1 ≤ row
+    → (row ≤ count) × (lookup (cellsOf t count) o k ≡ some (heldBy (cellAt t (24 * (row - 1)))))
+unfolding cellsOf
+row-held t count row o k e l =
+    let g : ℕ → Cell = λ i. cellAt t (24 * i) in
+    let i : ℕ = row - 1 in
+    let r : rowIn (values g 0 count) o k ≡ suc i = omega (arith, e) in
+    let h = row-some (values g 0 count) o k i (g 0) r in
+    let n : length (values g 0 count) ≡ count = length-values g 0 count in
+    let u : i < count = omega (arith, h .0, n) in
+    (omega (arith, u), h .1 ∙ ap (λ (c : Cell). some (heldBy c)) (getD-values g 0 count i (g 0) u ∙ ap g (zero-add i)))
+
+-- a stretch in the middle replaced by one as long
+splice-mid : (a b b′ z : List ℕ) (i : ℕ) → length a ≡ i → length b ≡ length b′ → splice (a ++ b ++ z) i b′ ≡ a ++ b′ ++ z
+unfolding splice
+splice-mid a b b′ z i n e =
+    ap₂ (λ (s t : List ℕ). s ++ b′ ++ t)
+    (ap (take i) (append-assoc a b z) ∙ take-at a (b ++ z) i n)
+    (drop-at (a ++ b) z (i + length b′) (omega (arith, length-append a b)))
+
+-- the five fields put in one after the other
+pub row-put : (t : List ℕ) (s : ℕ) (c : Cell) {t₁ t₂ t₃ t₄ t₅ : List ℕ} → s + 24 ≤ length t
+    → t₁ ≡ splice t s (bytesOf 4 (c .object))
+    → t₂ ≡ splice t₁ (s + 4) (bytesOf 4 (c .key))
+    → t₃ ≡ splice t₂ (s + 8) (bytesOf 4 (c .value))
+    → t₄ ≡ splice t₃ (s + 12) (bytesOf 4 (c .present))
+    → t₅ ≡ splice t₄ (s + 16) (bytesOf 8 (c .version))
+    → t₅ ≡ splice t s (cellBytes c)
+unfolding cellBytes
+row-put t s c h e₁ e₂ e₃ e₄ e₅ =
+    let a = bytesOf 4 (c .object) in
+    let b = a ++ bytesOf 4 (c .key) in
+    let d = b ++ bytesOf 4 (c .value) in
+    let g = d ++ bytesOf 4 (c .present) in
+    let la : length a ≡ 4 = length-bytesOf 4 (c .object) in
+    let lb : length b ≡ 8 = length-append a (bytesOf 4 (c .key)) ∙ omega (arith, la, length-bytesOf 4 (c .key)) in
+    let ld : length d ≡ 12 = length-append b (bytesOf 4 (c .value)) ∙ omega (arith, lb, length-bytesOf 4 (c .value)) in
+    let lg : length g ≡ 16 = length-append d (bytesOf 4 (c .present)) ∙ omega (arith, ld, length-bytesOf 4 (c .present)) in
+    let f₂ = splice-then t s a (bytesOf 4 (c .key)) e₁ e₂ (omega (arith, la)) (omega (arith, la)) in
+    let f₃ = splice-then t s b (bytesOf 4 (c .value)) f₂ e₃ (omega (arith, lb)) (omega (arith, lb)) in
+    let f₄ = splice-then t s d (bytesOf 4 (c .present)) f₃ e₄ (omega (arith, ld)) (omega (arith, ld)) in
+    splice-then t s g (bytesOf 8 (c .version)) f₄ e₅ (omega (arith, lg)) (omega (arith, lg))
+
+-- the bytes of a table with a row in the middle
+with-mid : (t : List ℕ) (p : List Cell) (c : Cell) (q : List Cell) (n : ℕ) → length (p ++ c ∷ q) ≡ n
+    → tableWith t (p ++ c ∷ q) ≡ joined cellBytes p ++ cellBytes c ++ (joined cellBytes q ++ drop (24 * n) t)
+unfolding tableWith joined
+with-mid t p c q n e =
+    ap₂ (λ (a b : List ℕ). a ++ b) (joined-append cellBytes p (c ∷ q)) (ap (λ (m : ℕ). drop (24 * m) t) e) ∙ simp append-assoc
+
+module _ (t : List ℕ) (bytes : all (λ x. ltb x 256) t ≡ true) (count : ℕ) (room : 24 * count ≤ length t) where
+  pub row-replaced : (i : ℕ) (c : Cell) → i < count → splice t (24 * i) (cellBytes c) ≡ tableWith t (set (cellsOf t count) i c)
+  row-replaced i c l =
+      let cs = cellsOf t count in
+      let n : length cs ≡ count = length-cells t count in
+      let p = take i cs in
+      let q = drop (suc i) cs in
+      let old = getD cs i c in
+      let u : i < length cs = omega (arith, n) in
+      let split : cs ≡ p ++ old ∷ q = split-at cs i c u in
+      let new : set cs i c ≡ p ++ c ∷ q = set-split cs i c u in
+      let at : length (joined cellBytes p) ≡ 24 * i = length-stored p ∙ ap (λ (m : ℕ). 24 * m) (length-take-le i cs (omega (arith, n))) in
+      ap (λ (s : List ℕ). splice s (24 * i) (cellBytes c)) (sym (table-back t bytes count room) ∙ ap (tableWith t) split ∙ with-mid t p old q count (ap length (sym split) ∙ n))
+      ∙ splice-mid (joined cellBytes p) (cellBytes old) (cellBytes c) (joined cellBytes q ++ drop (24 * count) t) (24 * i) at (length-cell old ∙ sym (length-cell c))
+      ∙ sym (ap (tableWith t) new ∙ with-mid t p c q count (ap length (sym new) ∙ length-set cs i c ∙ n))
+
+  pub row-appended : (c : Cell) → splice t (24 * count) (cellBytes c) ≡ tableWith t (cellsOf t count ++ (c ∷ []))
+  unfolding splice joined tableWith
+  row-appended c =
+      let cs = cellsOf t count in
+      let n : length cs ≡ count = length-cells t count in
+      let e : 24 * count + length (cellBytes c) ≡ 24 * (count + 1) = omega (arith, length-cell c) in
+      let m : length (cs ++ (c ∷ [])) ≡ count + 1 = length-append cs (c ∷ []) ∙ ap (λ (k : ℕ). k + 1) n in
+      ap₂ (λ (a b : List ℕ). a ++ cellBytes c ++ b)
+      (ap (take (24 * count)) (sym (table-back t bytes count room)) ∙ take-at (joined cellBytes cs) (drop (24 * length cs) t) (24 * count) (length-stored cs ∙ ap (λ (k : ℕ). 24 * k) n))
+      (ap (λ (k : ℕ). drop k t) e)
+      ∙ sym (with-mid t cs c [] (count + 1) m)
+
+  -- a cell stored, in its row or in a new one
+  pub cell-stored : (o k : ℕ) (h : Held) → splice t (24 * (rowIn (store (cellsOf t count) o k h) o k - 1)) (cellBytes (cellOf o k h)) ≡ tableWith t (store (cellsOf t count) o k h)
+  cell-stored o k h = go (rowIn (cellsOf t count) o k) refl
+    where
+      go : (r : ℕ) → rowIn (cellsOf t count) o k ≡ r
+          → splice t (24 * (rowIn (store (cellsOf t count) o k h) o k - 1)) (cellBytes (cellOf o k h)) ≡ tableWith t (store (cellsOf t count) o k h)
+      go zero e =
+          let at : rowIn (store (cellsOf t count) o k h) o k - 1 ≡ count = omega (arith, row-store-new (cellsOf t count) o k h e, length-cells t count) in
+          rw (at, store-new (cellsOf t count) o k h e) (row-appended (cellOf o k h))
+      go (suc i) e =
+          let at : rowIn (store (cellsOf t count) o k h) o k - 1 ≡ i = omega (arith, row-store-old (cellsOf t count) o k h i e) in
+          rw (at, store-old (cellsOf t count) o k h i e)
+          (row-replaced i (cellOf o k h) (omega (arith, row-some (cellsOf t count) o k i (cellOf o k h) e .0, length-cells t count)))
+
+-- ---- a call that stores a cell: the count and the bytes that it leaves
+
+pub cell-written : (t : List ℕ) (count row o k : ℕ) (h : Held) → ((j : ℕ) → getD t j 0 < 256) → 24 * count ≤ length t
+    → rowIn (store (cellsOf t count) o k h) o k ≡ row → (t′ : List ℕ) → t′ ≡ splice t (24 * (row - 1)) (cellBytes (cellOf o k h))
+    → (b : Bool) → ltb count row ≡ b
+    → _≡_ {A = ℕ × List ℕ} (cond b (count + 1) count, t′) (length (store (cellsOf t count) o k h), tableWith t (store (cellsOf t count) o k h))
+cell-written t count row o k h small room e t′ f b u =
+    let cs = cellsOf t count in
+    let n : length cs ≡ count = length-cells t count in
+    let v : ltb (length cs) (rowIn (store cs o k h) o k) ≡ b = ap₂ ltb n e ∙ u in
+    let size : cond b (count + 1) count ≡ length (store cs o k h) =
+    sym (length-by-row cs o k h ∙ (λ j. cond (v j) (n j + 1) (n j))) in
+    let left : t′ ≡ tableWith t (store cs o k h) =
+    f ∙ ap (λ (r : ℕ). splice t (24 * (r - 1)) (cellBytes (cellOf o k h))) (sym e) ∙ cell-stored t (bytes-all t (λ j l. small j)) count room o k h in
+    λ j. (size j, left j)
+
+-- ---- the cells then
+
+module _ (t : List ℕ) (bytes : all (λ x. ltb x 256) t ≡ true) (count : ℕ) where
+  cell-fits : (i : ℕ) → fitsCell (cellAt t i) ≡ true
+  unfolding cellAt
+  cell-fits i = both (both (both (both (field 4 i) (field 4 (i + 4))) (field 4 (i + 8))) (field 4 (i + 12))) (field 8 (i + 16))
+    where
+      field : (n j : ℕ) → ltb (beAt n t j) (256 ^ n) ≡ true
+      field n j = lt-ltb (beAt n t j) (256 ^ n) (beAt-lt n t j (λ k l. ltb-true (getD t (j + k) 0) 256 (all-getD (λ x. ltb x 256) t (j + k) 0 bytes refl)))
+
+  pub cells-fit : all fitsCell (cellsOf t count) ≡ true
+  unfolding cellsOf
+  cells-fit =
+      every-all fitsCell (λ i. cellAt t (24 * i))
+      (seeking-from (failing fitsCell (λ i. cellAt t (24 * i))) count count (omega arith) (λ i l. ap not (cell-fits (24 * i)))) (omega arith)
+
+  -- they are read back as they were stored
+  pub stored-back : (o k : ℕ) (h : Held) → fitsCell (cellOf o k h) ≡ true
+      → cellsOf (tableWith t (store (cellsOf t count) o k h)) (length (store (cellsOf t count) o k h)) ≡ store (cellsOf t count) o k h
+  stored-back o k h f = cells-back t (store (cellsOf t count) o k h) (all-store fitsCell (cellsOf t count) o k h cells-fit f)
+
+-- ---- the bytes of a table with cells
+
+pub length-tableWith : (t : List ℕ) (cs : List Cell) → 24 * length cs ≤ length t → length (tableWith t cs) ≡ length t
+unfolding tableWith
+length-tableWith t cs h =
+    length-append (joined cellBytes cs) (drop (24 * length cs) t) ∙ omega (arith, length-stored cs, length-drop (24 * length cs) t)
+
+-- cells stored twice: the second counts, if they are no fewer
+pub table-again : (t : List ℕ) (cs ds : List Cell) → length cs ≤ length ds → tableWith (tableWith t cs) ds ≡ tableWith t ds
+unfolding tableWith
+table-again t cs ds h =
+    let n : ℕ = 24 * length ds - 24 * length cs in
+    let e : 24 * length ds ≡ 24 * length cs + n = omega arith in
+    ap (λ (s : List ℕ). joined cellBytes ds ++ s)
+    (ap (λ (m : ℕ). drop m (tableWith t cs)) e
+    ∙ sym (drop-drop n (24 * length cs) (tableWith t cs))
+    ∙ ap (drop n) (drop-at (joined cellBytes cs) (drop (24 * length cs) t) (24 * length cs) (length-stored cs))
+    ∙ drop-drop n (24 * length cs) t
+    ∙ ap (λ (m : ℕ). drop m t) (sym e))
