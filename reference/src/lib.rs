@@ -7,6 +7,7 @@ pub mod answer;
 pub mod append;
 pub mod audit;
 pub mod bytes;
+pub mod cases;
 pub mod earlier;
 pub mod log;
 pub mod objects;

@@ -83,6 +83,15 @@ impl Mix {
             ..Mix::true_records()
         }
     }
+
+    /// As rough, with two objects of many keys, so that a checkpoint may have too many cells.
+    pub fn crowded() -> Mix {
+        Mix {
+            objects: 0b1_0010,
+            keys: 16,
+            ..Mix::rough()
+        }
+    }
 }
 
 /// A log that grows by random appends.
