@@ -28,6 +28,8 @@ pub fn put64(bytes: &mut [u8], at: usize, value: u64) {
     bytes[at..at + 8].copy_from_slice(&value.to_be_bytes());
 }
 
+/// A stretch of at most 256 bytes is zero.
 pub fn all_zero(bytes: &[u8]) -> bool {
-    bytes.iter().fold(0, |any, byte| any | byte) == 0
+    static ZERO: [u8; 256] = [0; 256];
+    *bytes == ZERO[..bytes.len()]
 }

@@ -387,6 +387,12 @@ fn break_headers(breaker: &mut Breaker) {
         slot[20..32].fill(0);
     });
     breaker.word("format 1 without an earlier entry", 8, 0x8000_0002);
+    breaker.on(&two_updates(), 0);
+    breaker.edit("the only object's header twice", |slot| {
+        slot[2] = 2;
+        slot.copy_within(8..20, 20);
+    });
+    breaker.on(&two_updates(), 1);
     for place in 0..4 {
         breaker.edit("a distance where there is none", |slot| {
             put16(slot, 12 + 2 * place, 1)

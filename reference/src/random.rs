@@ -43,6 +43,36 @@ impl Random {
     }
 }
 
+/// Numbers at the edges of what a call takes.
+pub const EDGES: [u64; 14] = [
+    0,
+    1,
+    2,
+    3,
+    7,
+    12,
+    255,
+    256,
+    131_072,
+    131_073,
+    u32::MAX as u64,
+    1 << 32,
+    1 << 63,
+    u64::MAX,
+];
+
+/// A number at an edge or just below one.
+pub fn edge(random: &mut Random) -> u64 {
+    let back = u64::from(random.percent(20));
+    random.pick(&EDGES).unwrap_or(0).wrapping_sub(back)
+}
+
+/// Any bytes, at most so many.
+pub fn junk(random: &mut Random, longest: u64) -> Vec<u8> {
+    let length = random.below(longest + 1);
+    (0..length).map(|_| random.number() as u8).collect()
+}
+
 /// What a history is like.
 #[derive(Clone, Copy, Debug)]
 pub struct Mix {

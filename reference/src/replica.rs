@@ -184,11 +184,8 @@ impl<'a> Player<'a> {
             // "the hosted writes of all its number's updates, in log order, are applied with the commit
             // record's offset plus 1"
             Some(true) => {
-                let earlier = self.earlier;
-                let updates = earlier
-                    .transaction(commit.number())
-                    .map_or(&[][..], |transaction| &transaction.updates);
-                self.apply(updates, at, Step::Commits)
+                let updates = self.earlier.updates(commit.number());
+                self.apply(&updates, at, Step::Commits)
             }
         }
     }

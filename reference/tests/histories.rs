@@ -4,7 +4,7 @@ use reference::append::{self, Request};
 use reference::audit::audit;
 use reference::log::{check, entry, header, items, list, next, owed, stretch};
 use reference::objects::{has, set_of, OBJECTS};
-use reference::random::{flip, History, Mix, Random};
+use reference::random::{edge, flip, junk, History, Mix, Random};
 use reference::replica::{open_at, open_fresh, play, read_cell, Record};
 use reference::run::Run;
 use reference::slot::{slot_at, Kind, SLOT};
@@ -169,34 +169,6 @@ fn histories_have_all_kinds_and_refusals() {
         "{kinds:?}"
     );
     assert!(audits[0] > 20 && audits[11] > 20, "{audits:?}");
-}
-
-/// Numbers at the edges.
-const EDGES: [u64; 14] = [
-    0,
-    1,
-    2,
-    3,
-    7,
-    12,
-    255,
-    256,
-    131_072,
-    131_073,
-    u32::MAX as u64,
-    1 << 32,
-    1 << 63,
-    u64::MAX,
-];
-
-fn edge(random: &mut Random) -> u64 {
-    let near = random.below(5);
-    random.pick(&EDGES).unwrap_or(0).wrapping_sub(near / 4)
-}
-
-fn junk(random: &mut Random, longest: u64) -> Vec<u8> {
-    let length = random.below(longest + 1);
-    (0..length).map(|_| random.number() as u8).collect()
 }
 
 /// Every call on a log of any bytes, with numbers of any kind. Refused appends, openings and lists change nothing.

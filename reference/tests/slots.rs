@@ -1,10 +1,12 @@
 //! Each slot rule broken once is found at its entry; the stored vectors stay within their bounds.
 
 use reference::append::{self, Writer};
+use reference::audit::audit;
 use reference::cases::{broken, frames, good, reading, Case, Expected};
 use reference::log::{check, list, scan};
 use reference::random::{History, Mix};
-use reference::slot::SLOT;
+use reference::slot::{slot_at, SLOT};
+use reference::table::CELL;
 use reference::Answer;
 
 fn found(case: &Case) -> Expected {
@@ -65,18 +67,45 @@ fn the_vectors_stay_within_their_bounds() {
     assert!(frames().len() + good().len() + broken().len() > 100);
 }
 
+fn lists_equal_scans(log: &[u8], tail: usize) {
+    for object in 1..=8 {
+        let mut lent = vec![0; tail];
+        let count = list(log, tail, object, &mut lent).done().unwrap();
+        let listed: Vec<usize> = lent[..count].iter().map(|at| *at as usize).collect();
+        assert_eq!(listed, scan(log, tail, object));
+    }
+}
+
 #[test]
 fn the_stream_list_equals_a_plain_upward_scan() {
     for seed in 0..20 {
         let history = History::made(seed, 300, 300, Mix::rough());
         let Writer { log, tail, .. } = &history.writer;
-        for object in 1..=8 {
-            let mut lent = vec![0; *tail];
-            let count = list(log, *tail, object, &mut lent).done().unwrap();
-            let listed: Vec<usize> = lent[..count].iter().map(|at| *at as usize).collect();
-            assert_eq!(listed, scan(log, *tail, object));
-        }
+        lists_equal_scans(log, *tail);
     }
+}
+
+#[test]
+fn far_back_pointers() {
+    let mut history = History::made(1, 70_000, 40, Mix::true_records());
+    history.mix.objects = 0b1_0000;
+    while history.writer.tail < 69_000 {
+        history.step();
+        history.appends.clear();
+    }
+    history.mix.objects = 0xFF;
+    for _ in 0..200 {
+        history.step();
+    }
+    let Writer { log, tail, .. } = &history.writer;
+    assert_eq!(check(log, *tail), Answer::Done(()));
+    let far = (0..*tail).flat_map(|at| slot_at(log, at).headers());
+    assert_eq!(far.filter(|header| header.format == 1).count(), 7);
+    lists_equal_scans(log, *tail);
+    assert_eq!(
+        audit(log, *tail, &mut vec![0; 100 * CELL]).0,
+        Answer::Done(())
+    );
 }
 
 #[test]
@@ -120,7 +149,7 @@ fn two_good_entries_that_read_alike_are_the_same_bytes() {
 
 /// Kind, number, header objects and items, as an entry reads.
 fn read_back(log: &[u8], at: usize) -> (Option<u32>, u32, u8, &[u8]) {
-    let slot = reference::slot::slot_at(log, at);
+    let slot = slot_at(log, at);
     let kind = slot.kind().map(|kind| kind as u32);
     (kind, slot.number(), slot.objects(), slot.items())
 }

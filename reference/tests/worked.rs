@@ -225,7 +225,7 @@ fn waiting_and_then_played_with_a_decision() {
     let (answer, record, table) = play_fresh(&aborted, 1 << 4, 1);
     assert_eq!((answer, record.count), (Done(()), 0));
     assert_eq!(read_cell(&record, &table, 5, 1), Done(Cell::NeverWritten));
-    let (answer, _) = audit(&aborted, 4, &mut vec![0; 10 * CELL]);
+    let (answer, _) = audit(&aborted, 4, &mut [0; 10 * CELL]);
     assert_eq!(answer, refused_at(11, 3));
     // Who hosts all objects read decides alone.
     let (_, record, table) = play_fresh(&aborted, 1 << 4 | 1 << 1, 2);
@@ -325,7 +325,7 @@ fn opened_at_a_checkpoint_updates_set_aside_before_count() {
     assert_eq!((answer, record.count), (Done(()), 4));
     assert_eq!(read_cell(&record, &table, 2, 8), holds(2, 4));
     assert_eq!(table[4 * CELL..], vec![0xAA; CELL + 3]);
-    assert_eq!(audit(&log, 4, &mut vec![0; 4 * CELL]).0, Done(()));
+    assert_eq!(audit(&log, 4, &mut [0; 4 * CELL]).0, Done(()));
 }
 
 #[test]
@@ -440,7 +440,7 @@ fn owed_is_the_lowest_marked_commit_without_a_decision() {
 
 #[test]
 fn the_audit_finds_each_false_record() {
-    let good = vec![
+    let good = [
         update(0, &[put(2, 7, 1)]),
         update(9, &[put(5, 1, 3)]),
         commit(9, &[read(2, 7, 1)]),
