@@ -6,6 +6,7 @@
 pub mod answer;
 pub mod append;
 pub mod audit;
+pub mod broken;
 pub mod bytes;
 pub mod cases;
 pub mod earlier;

@@ -2,7 +2,8 @@
 
 use reference::append::{self, Writer};
 use reference::audit::audit;
-use reference::cases::{broken, frames, good, reading, Case, Expected};
+use reference::broken::broken;
+use reference::cases::{frames, good, reading, Case, Expected};
 use reference::log::{check, list, scan};
 use reference::random::{History, Mix};
 use reference::slot::{slot_at, SLOT};
