@@ -300,6 +300,7 @@ fn break_closed(breaker: &mut Breaker) {
     let five = write_bytes(&[put(1, 0, 0), put(2, 0, 0), put(3, 0, 0), put(4, 0, 0)]);
     breaker.forged("fifth and sixth object", 3, Kind::Update, 9, 0b1111, &five);
     breaker.forged("plain update without writes", 3, Kind::Update, 0, 0b10, &[]);
+    breaker.forged("commit of the plain updates", 3, Kind::Commit, 0, 0b10, &[]);
     breaker.forged("commit without its updates", 2, Kind::Commit, 12, 0b10, &[]);
 }
 
