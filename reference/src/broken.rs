@@ -376,6 +376,12 @@ fn break_decision(breaker: &mut Breaker) {
         objects,
         &[],
     );
+    // A commit record stands where the decision points, but above it.
+    breaker.on(&[update(9, &[put(2, 1, 1)])], 1);
+    let mut log = breaker.base.clone();
+    forge(&mut log, Kind::Decision, 9, 0b10, &verdict(2, COMMIT));
+    forge(&mut log, Kind::Commit, 9, 0b10, &[]);
+    breaker.push("decision below its commit record", log);
 }
 
 fn break_checkpoint(breaker: &mut Breaker) {
