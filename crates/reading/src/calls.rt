@@ -54,15 +54,20 @@ fn header(h: Header, place: u32, headers: u32) {
 }
 
 fn info(i: Info) {
+    let k = i.kind;
     let n = i.number;
-    crate::print::next(kind(i.kind));
+    let first = i.first;
+    let second = i.second;
+    let third = i.third;
+    let fourth = i.fourth;
+    crate::print::next(kind(k));
     crate::print::next(n.0 as u64);
     crate::print::next(i.headers as u64);
     crate::print::next(i.items as u64);
-    header(i.first, 0, i.headers);
-    header(i.second, 1, i.headers);
-    header(i.third, 2, i.headers);
-    header(i.fourth, 3, i.headers);
+    header(first, 0, i.headers);
+    header(second, 1, i.headers);
+    header(third, 2, i.headers);
+    header(fourth, 3, i.headers);
 }
 
 fn entry(log: &[u8], tail: usize, o: u64) {

@@ -6,6 +6,11 @@ pub fn number(n: u64) {
     io::print_decimal(1, n);
 }
 
+// The same number in 64 bits.
+pub fn wide(n: u32) -> u64 {
+    n as u64
+}
+
 // A space and a number.
 pub fn next(n: u64) {
     io::write_all(1, b" ");

@@ -39,7 +39,7 @@ pub fn nexts(log: &[u8], tail: usize, x: u32) {
 fn numbers(list: &[u32]) {
     let mut k = 0;
     while k < list.len() {
-        crate::print::next(list[k] as u64);
+        crate::print::next(crate::print::wide(list[k]));
         k += 1;
     }
     crate::print::line_end();
