@@ -3,15 +3,15 @@ ghost use mathlib.Core.Path.{_≡_};
 ghost use mathlib.Core.Bool.{true};
 ghost use Prim.Native.Nat.{_+_, _*_, _≤_, _<_};
 ghost use mathlib.Core.List.{[]};
-ghost use lib.ListN.{length, drop, getD};
+ghost use lib.ListN.{length, drop, getD, set};
 ghost use Rattle.model.specs.Objects.{depots, isCell};
 ghost use Rattle.model.specs.Table.{cellsOf};
 ghost use Rattle.table.specs.Places.{placeOf, Index};
 use codec::names::ObjectId;
 
 // The index with the row at place i, the first of those from i on.
-fn with_row(index: &mut [u32], table: &[u8], count: usize, i: usize)
-    requires { ⌜ (24 * count ≤ length (now table)) × (i < count) × (count < 4294967296) × Index (drop (i + 1) (cellsOf (now table) count)) (i + 1) (now index) ⌝ }
+fn with_row(index: &mut [u64], table: &[u8], count: usize, i: usize)
+    requires { ⌜ (24 * count ≤ length (now table)) × (i < count) × Index (drop (i + 1) (cellsOf (now table) count)) (i + 1) (now index) ⌝ }
     ensures { λ _. ⌜ Index (drop i (cellsOf (now (table .entry)) count)) i (now (index .exit)) ⌝ }
 {
     let r = crate::rows::row_at(table, i);
@@ -19,12 +19,12 @@ fn with_row(index: &mut [u32], table: &[u8], count: usize, i: usize)
         return;
     }
     let k = crate::places::place_of(r.object, r.key);
-    index[k] = (i + 1) as u32;
+    index[k] = (i + 1) as u64;
 }
 
 // The index of the counted rows, from an index of none.
-pub fn build(index: &mut [u32], table: &[u8], count: usize)
-    requires { ⌜ (24 * count ≤ length (now table)) × (count < 4294967296) × Index [] count (now index) ⌝ }
+pub fn build(index: &mut [u64], table: &[u8], count: usize)
+    requires { ⌜ (24 * count ≤ length (now table)) × Index [] count (now index) ⌝ }
     ensures { λ _. ⌜ Index (cellsOf (now (table .entry)) count) 0 (now (index .exit)) ⌝ }
 {
     let mut i = count;
@@ -35,10 +35,19 @@ pub fn build(index: &mut [u32], table: &[u8], count: usize)
 }
 
 // The row of a cell, plus 1; 0 where there is none.
-pub fn row_of(index: &[u32], id: ObjectId, key: u32) -> usize
+pub fn row_of(index: &[u64], id: ObjectId, key: u32) -> usize
     requires { ⌜ (length (now index) ≡ 21503) × (isCell depots (id .0) key ≡ true) ⌝ }
     ensures { λ r. ⌜ r ≡ getD (now (index .entry)) (placeOf (id .0) key) 0 ⌝ }
 {
     let k = crate::places::place_of(id, key);
     index[k] as usize
+}
+
+// The index with another row for a cell.
+pub fn set_row(index: &mut [u64], id: ObjectId, key: u32, row: usize)
+    requires { ⌜ (length (now index) ≡ 21503) × (isCell depots (id .0) key ≡ true) ⌝ }
+    ensures { λ _. ⌜ now (index .exit) ≡ set (now (index .entry)) (placeOf (id .0) key) row ⌝ }
+{
+    let k = crate::places::place_of(id, key);
+    index[k] = row as u64;
 }

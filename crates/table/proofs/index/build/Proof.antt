@@ -27,7 +27,7 @@ loop-holds c =
     let cs = cellsOf (a .table .now) (a .count) in
     let short : length cs ≤ a .count = omega (arith, length-cells (a .table .now) (a .count)) in
     let none : drop (a .count) cs ≡ [] = drop-of-length-le cs short in
-    (omega arith, subst (λ (cs : List Cell). Index cs (a .count) (a .index .now)) (sym none) (c₀ .pre .2))
+    (omega arith, subst (λ (cs : List Cell). Index cs (a .count) (a .index .now)) (sym none) (c₀ .pre .1))
 
 -- src/index.rt:32:9
 sub-i : tie.Need-sub-i Inv-loop μ-loop
@@ -40,7 +40,7 @@ with-row-requires c κs =
     let c₀ = c .before .before .before .before .before in
     let a = c₀ .args in
     let e : l .i ≡ l .i - 1 + 1 = omega arith in
-    (c₀ .pre .0, omega arith, c₀ .pre .1, subst (λ (m : ℕ). Index (drop m (cellsOf (a .table .now) (a .count))) m (l .index)) e (l .inv .1))
+    (c₀ .pre .0, omega arith, subst (λ (m : ℕ). Index (drop m (cellsOf (a .table .now) (a .count))) m (l .index)) e (l .inv .1))
 
 -- src/index.rt:31:5
 loop-less : tie.Need-loop-less Inv-loop μ-loop
@@ -52,7 +52,7 @@ loop-again c = (omega arith, c .before .before .with-row .ensures)
 
 -- src/index.rt:26:1
 same-length : tie.Need-same-length Inv-loop μ-loop
-same-length c = c .before .loop .inv .1 .size ∙ sym (c .before .before .before .before .pre .2 .size)
+same-length c = c .before .loop .inv .1 .size ∙ sym (c .before .before .before .before .pre .1 .size)
 
 -- src/index.rt:26:1
 returns : tie.Need-returns Inv-loop μ-loop

@@ -28,14 +28,10 @@ mul-result c = omega (arith, below c)
 shared-slice-read-result : tie.Need-shared-slice-read-result
 shared-slice-read-result c = omega (arith, below (c .before), c .before .before .before .pre .0)
 
--- src/index.rt:43:5
-cast-result : tie.Need-cast-result
-cast-result c = omega (arith, c .shared-slice-known2 .given (c .before .place-of .result))
-
 -- src/index.rt:38:1
 returns : tie.Need-returns
 returns c = ap (λ (p : ℕ). getD (c .before .before .before .args .index .now) p 0) (c .before .place-of .ensures)
 
 pub row-of-spec : {M : Type 1} → statement M
 row-of-spec =
-    tie.close (tie.spec place-of-requires mul-result shared-slice-read-result cast-result returns)
+    tie.close (tie.spec place-of-requires mul-result shared-slice-read-result returns)

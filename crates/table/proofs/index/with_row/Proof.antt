@@ -31,7 +31,7 @@ returns c =
     let r = c .before .before .row-at in
     let c₀ = c .before .before .before .before .before in
     let a = c₀ .args in
-    index-past (a .table .now) (a .count) (a .i) (c₀ .pre .1) (cellIn (r .result)) (r .ensures) (c₀ .pre .3)
+    index-past (a .table .now) (a .count) (a .i) (c₀ .pre .1) (cellIn (r .result)) (r .ensures) (c₀ .pre .2)
     (sym (c .before .is-cell .ensures) ∙ not-true (c .before .is-cell .result) (c .if1 .taken))
 
 inside : (c : tie.Else1) → isCell depots (c .before .before .row-at .result .object .0) (c .before .before .row-at .result .key) ≡ true
@@ -50,17 +50,13 @@ below c =
 add-index : tie.Need-add-index
 add-index c = search needs
 
--- src/index.rt:22:16
-cast-index : tie.Need-cast-index
-cast-index c = search needs
-
 -- src/index.rt:22:5
 mul-index : tie.Need-mul-index
 mul-index c = omega (arith, below c)
 
 -- src/index.rt:22:5
 slice-write-index : tie.Need-slice-write-index
-slice-write-index c = omega (arith, below c, c .before .before .before .before .before .before .pre .3 .size)
+slice-write-index c = omega (arith, below c, c .before .before .before .before .before .before .pre .2 .size)
 
 -- src/index.rt:13:1
 same-length : tie.Need-same-length
@@ -72,7 +68,7 @@ returns-2 c =
     let r = c .before .before .before .row-at in
     let c₀ = c .before .before .before .before .before .before in
     let a = c₀ .args in
-    index-with (a .table .now) (a .count) (a .i) (c₀ .pre .1) (cellIn (r .result)) (r .ensures) (c₀ .pre .3)
+    index-with (a .table .now) (a .count) (a .i) (c₀ .pre .1) (cellIn (r .result)) (r .ensures) (c₀ .pre .2)
     (inside (c .before)) (c .place-of .result) (c .place-of .ensures)
 
 pub with-row-spec : {M : Type 1} → statement M
@@ -84,7 +80,6 @@ with-row-spec =
     returns
     place-of-requires
     add-index
-    cast-index
     mul-index
     slice-write-index
     same-length
