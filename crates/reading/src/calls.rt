@@ -1,0 +1,119 @@
+// Check, owed, entry and item list.
+use codec::marks::Mark;
+use codec::names::Offset;
+use entries::calls::Checked;
+use entries::calls::Found;
+use entries::calls::Info;
+use entries::owing::Owed;
+use slot::fields::Header;
+
+pub fn check(log: &[u8], tail: usize) {
+    io::write_all(1, b"check");
+    let c = entries::calls::check(log, tail);
+    match c {
+        Checked::Done => {
+            io::write_all(1, b" done");
+        }
+        Checked::Refused(r) => crate::print::refusal(r),
+    }
+    crate::print::line_end();
+}
+
+pub fn owed(log: &[u8], tail: usize) {
+    io::write_all(1, b"owed");
+    let w = entries::owing::lowest_owing(log, tail);
+    match w {
+        Owed::At(o) => crate::print::next(o.0),
+        Owed::Nothing => {
+            io::write_all(1, b" none");
+        }
+        Owed::Refused(r) => crate::print::refusal(r),
+    }
+    crate::print::line_end();
+}
+
+fn kind(m: Mark) -> u64 {
+    match m {
+        Mark::Update => 1,
+        Mark::Commit => 2,
+        Mark::Decision => 3,
+        Mark::Checkpoint => 4,
+        Mark::Bad => 0,
+    }
+}
+
+// The header at a place, where the entry has so many.
+fn header(h: Header, place: u32, headers: u32) {
+    if headers <= place {
+        return;
+    }
+    let x = h.object;
+    crate::print::next(x.0 as u64);
+    crate::print::next(h.format as u64);
+    crate::print::next(h.pointer);
+}
+
+fn info(i: Info) {
+    let k = i.kind;
+    let n = i.number;
+    let first = i.first;
+    let second = i.second;
+    let third = i.third;
+    let fourth = i.fourth;
+    crate::print::next(kind(k));
+    crate::print::next(n.0 as u64);
+    crate::print::next(i.headers as u64);
+    crate::print::next(i.items as u64);
+    header(first, 0, i.headers);
+    header(second, 1, i.headers);
+    header(third, 2, i.headers);
+    header(fourth, 3, i.headers);
+}
+
+fn entry(log: &[u8], tail: usize, o: u64) {
+    io::write_all(1, b"entry");
+    crate::print::next(o);
+    let f = entries::calls::entry(log, tail, Offset(o));
+    match f {
+        Found::Entry(i) => info(i),
+        Found::Refused(r) => crate::print::refusal(r),
+    }
+    crate::print::line_end();
+}
+
+// The bytes as numbers of 4 bytes.
+fn words(s: &[u8]) {
+    let n = s.len() / 4;
+    let mut k = 0;
+    while k < n {
+        crate::print::next(codec::bytes::be32(s, 4 * k) as u64);
+        k += 1;
+    }
+}
+
+fn items(log: &[u8], tail: usize, o: u64) {
+    io::write_all(1, b"items");
+    crate::print::next(o);
+    words(entries::calls::items(log, tail, Offset(o)));
+    crate::print::line_end();
+}
+
+fn both(log: &[u8], tail: usize, o: u64) {
+    entry(log, tail, o);
+    items(log, tail, o);
+}
+
+// The first eight offsets, the tail and the offset after it.
+pub fn entries(log: &[u8], tail: usize) {
+    for o in 0..8 {
+        if o <= tail {
+            both(log, tail, o as u64);
+        }
+    }
+    if 7 < tail {
+        both(log, tail, tail as u64);
+    }
+    if tail < 4294967296 {
+        both(log, tail, tail as u64 + 1);
+    }
+}

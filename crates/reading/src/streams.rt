@@ -1,0 +1,66 @@
+// The stream reader's next, and the stream list.
+use codec::names::ObjectId;
+use codec::names::Offset;
+use entries::listing::Listed;
+use entries::reader::NextEntry;
+
+fn next(log: &[u8], tail: usize, x: u32, from: u64) {
+    io::write_all(1, b"next");
+    crate::print::next(x as u64);
+    crate::print::next(from);
+    let n = entries::reader::stream_next(log, tail, ObjectId(x), Offset(from));
+    let f = n.found;
+    let r = n.reader;
+    match f {
+        NextEntry::At(o) => crate::print::next(o.0),
+        NextEntry::End => {
+            io::write_all(1, b" end");
+        }
+        NextEntry::Refused(r) => crate::print::refusal(r),
+    }
+    crate::print::next(r.0);
+    crate::print::line_end();
+}
+
+// From 0, the middle, the tail and the offset after it.
+pub fn nexts(log: &[u8], tail: usize, x: u32) {
+    next(log, tail, x, 0);
+    if 2 <= tail {
+        next(log, tail, x, tail as u64 / 2);
+    }
+    if 1 <= tail {
+        next(log, tail, x, tail as u64);
+    }
+    if tail < 4294967296 {
+        next(log, tail, x, tail as u64 + 1);
+    }
+}
+
+fn numbers(list: &[u32]) {
+    let mut k = 0;
+    while k < list.len() {
+        crate::print::next(crate::print::wide(list[k]));
+        k += 1;
+    }
+    crate::print::line_end();
+}
+
+fn list(log: &[u8], tail: usize, x: u32, lent: &mut [u32]) {
+    io::write_all(1, b"list");
+    crate::print::next(x as u64);
+    crate::print::next(lent.len() as u64);
+    let l = entries::listing::stream_list(log, tail, ObjectId(x), lent);
+    match l {
+        Listed::Count(n) => crate::print::next(n as u64),
+        Listed::Refused(r) => crate::print::refusal(r),
+    }
+    numbers(lent);
+}
+
+// With too little room, perhaps, and with enough.
+pub fn lists(log: &[u8], tail: usize, x: u32) {
+    let mut few = [77777u32; 5];
+    list(log, tail, x, &mut few);
+    let mut many = [77777u32; 40];
+    list(log, tail, x, &mut many);
+}

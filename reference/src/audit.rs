@@ -1,0 +1,91 @@
+//! "The audit hosts everything and plays from 0 over a lent scratch table, left as played."
+
+use crate::answer::{refuse, refuse_at, Answer, Refusal, FALSE_RECORD, NO_ROOM, WAITING};
+use crate::log::pass;
+use crate::replica::{Player, Record, Step};
+use crate::slot::{slot_at, Kind, Slot, COMMIT};
+use crate::table::row;
+
+/// What an audit found and left.
+pub struct Audited {
+    pub answer: Answer<()>,
+    /// As played; 0, 0, 0 where the log is refused.
+    pub record: Record,
+    /// By offset: a commit record there committed.
+    pub committed: Vec<bool>,
+}
+
+pub fn audit(log: &[u8], tail: usize, scratch: &mut [u8]) -> (Answer<()>, Record) {
+    let audited = audit_whole(log, tail, scratch);
+    (audited.answer, audited.record)
+}
+
+/// "Audit: 1, 2, 13, 11."
+pub fn audit_whole(log: &[u8], tail: usize, scratch: &mut [u8]) -> Audited {
+    let mut audited = Audited {
+        answer: Answer::Done(()),
+        record: Record {
+            hosted: 0,
+            position: 0,
+            count: 0,
+        },
+        committed: Vec::new(),
+    };
+    audited.answer = play_all(log, tail, scratch, &mut audited).into();
+    audited
+}
+
+fn play_all(
+    log: &[u8],
+    tail: usize,
+    scratch: &mut [u8],
+    audited: &mut Audited,
+) -> Result<(), Refusal> {
+    let earlier = pass(log, tail)?;
+    audited.record.hosted = 0xFF;
+    audited.committed = vec![false; tail];
+    let mut player = Player::new(log, &earlier, &audited.record, scratch);
+    let mut lowest_false = None;
+    for at in 0..tail {
+        if lowest_false.is_none() && !as_played(log, at, &player, &audited.committed) {
+            lowest_false = Some(at);
+        }
+        match player.step(at) {
+            Step::Commits => audited.committed[at] = true,
+            Step::Passed | Step::Aborts => {}
+            // "stopped at that entry, the audit tells its offset"
+            Step::LacksRoom => return refuse_at(NO_ROOM, at),
+            // It hosts every object that a good log reads, so it never waits.
+            Step::Waits => return refuse(WAITING),
+        }
+        audited.record.position = at as u64 + 1;
+        audited.record.count = player.count as u64;
+    }
+    lowest_false.map_or(Ok(()), |at| refuse_at(FALSE_RECORD, at))
+}
+
+/// 11: "a decision or checkpoint is not as played". The player is just below the entry.
+fn as_played(log: &[u8], at: usize, player: &Player, committed: &[bool]) -> bool {
+    let slot = slot_at(log, at);
+    match slot.kind() {
+        Some(Kind::Decision) => {
+            let verdict = slot.verdict();
+            (verdict.outcome == COMMIT) == committed[verdict.commit as usize]
+        }
+        Some(Kind::Checkpoint) => checkpoint_as_played(slot, player),
+        _ => true,
+    }
+}
+
+/// "It gives every cell ever written of its object as play leaves them below this entry."
+fn checkpoint_as_played(slot: Slot, player: &Player) -> bool {
+    let object = slot.header(0).object;
+    slot.item_count() == player.index.written(object)
+        && slot.saved().all(|saved| {
+            player.index.find(object, saved.key).is_some_and(|place| {
+                let row = row(player.table, place);
+                let value = (!saved.removed()).then_some(saved.value);
+                row.held() == value && row.version == saved.version()
+            })
+        })
+}

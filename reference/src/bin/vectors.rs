@@ -1,0 +1,157 @@
+//! Stored vectors for test programs: `vectors reading OUTDIR` writes OUTDIR/stdin and OUTDIR/stdout.
+//!
+//! stdin is a sequence of cases to its end. A case is 4 bytes tail, 4 bytes length of the log in bytes (both most
+//! significant byte first), then the log's bytes. stdout is what a program prints for all cases, in order. Numbers
+//! are decimal, with single spaces and '\n' ends; T is the given tail, and K the offset told or "-".
+//!
+//! - `check done` or `check refused N at K`.
+//! - `owed none`, `owed OFFSET` or `owed refused N at K`.
+//! - For each offset o of 0, 1, .. min(T, 7), then T, then T + 1, without repeats: `entry o KIND NUMBER HEADERS
+//!   ITEMS`, with kind 1 update, 2 commit, 3 decision, 4 checkpoint, and for each header ` OBJECT FORMAT POINTER` on
+//!   the same line (the pointer is the stored 8 bytes as one number); or `entry o refused N at K`. Then `items o` and
+//!   the item list's bytes as 4-byte words; nothing follows where it is empty or refused.
+//! - For each object x of 0, 1, .. 9, and f of 0, T / 2, T, T + 1, without repeats: `next x f OFFSET r`, `next x f end
+//!   r` or `next x f refused N at K r`, with r the reader's next offset afterwards.
+//! - For each object x of 0, 1, .. 9, with a lent list of 5 numbers, then of 40, each filled with 77777: `list x LENGTH
+//!   COUNT` or `list x LENGTH refused N at K`, and then all numbers of the lent list after the call.
+
+use std::fmt::Write;
+use std::path::Path;
+use std::process::ExitCode;
+
+use reference::cases::{reading, Case};
+use reference::log::{check, entry, header, items, list, next, owed};
+use reference::Answer;
+
+const FILLED: u32 = 77_777;
+
+fn main() -> ExitCode {
+    let arguments: Vec<String> = std::env::args().skip(1).collect();
+    let [what, directory] = arguments.as_slice() else {
+        eprintln!("usage: vectors reading OUTDIR");
+        return ExitCode::from(2);
+    };
+    if what != "reading" {
+        eprintln!("unknown vectors: {what}");
+        return ExitCode::from(2);
+    }
+    match write_vectors(Path::new(directory), &reading()) {
+        Ok(summary) => {
+            println!("{summary}");
+            ExitCode::SUCCESS
+        }
+        Err(error) => {
+            eprintln!("{directory}: {error}");
+            ExitCode::FAILURE
+        }
+    }
+}
+
+fn write_vectors(directory: &Path, cases: &[Case]) -> std::io::Result<String> {
+    let mut input = Vec::new();
+    let mut output = String::new();
+    for case in cases {
+        input.extend(case.tail.to_be_bytes());
+        input.extend((case.log.len() as u32).to_be_bytes());
+        input.extend(&case.log);
+        print_case(&mut output, &case.log, case.tail as usize);
+    }
+    std::fs::create_dir_all(directory)?;
+    std::fs::write(directory.join("stdin"), &input)?;
+    std::fs::write(directory.join("stdout"), &output)?;
+    let (cases, read, printed) = (cases.len(), input.len(), output.len());
+    Ok(format!(
+        "{cases} cases, stdin {read} bytes, stdout {printed} bytes"
+    ))
+}
+
+fn print_case(text: &mut String, log: &[u8], tail: usize) {
+    line(text, "check", check(log, tail), |()| "done".to_string());
+    line(text, "owed", owed(log, tail), |owed| {
+        owed.map_or("none".to_string(), |offset| offset.to_string())
+    });
+    let last = tail as u64;
+    for offset in distinct((0..=last.min(7)).chain([last, last + 1])) {
+        print_entry(text, log, tail, offset);
+    }
+    for object in 0..=9 {
+        for from in distinct([0, last / 2, last, last + 1].into_iter()) {
+            print_next(text, log, tail, object, from);
+        }
+    }
+    for object in 0..=9 {
+        for length in [5, 40] {
+            print_list(text, log, tail, object, length);
+        }
+    }
+}
+
+/// The numbers in their order, each once.
+fn distinct(numbers: impl Iterator<Item = u64>) -> Vec<u64> {
+    let mut seen = Vec::new();
+    for number in numbers {
+        if !seen.contains(&number) {
+            seen.push(number);
+        }
+    }
+    seen
+}
+
+fn shown<T>(answer: Answer<T>, done: impl FnOnce(T) -> String) -> String {
+    match answer {
+        Answer::Done(value) => done(value),
+        Answer::Refused { number, offset } => {
+            let place = offset.map_or("-".to_string(), |offset| offset.to_string());
+            format!("refused {number} at {place}")
+        }
+    }
+}
+
+fn line<T>(text: &mut String, name: &str, answer: Answer<T>, done: impl FnOnce(T) -> String) {
+    let _ = writeln!(text, "{name} {}", shown(answer, done));
+}
+
+fn print_entry(text: &mut String, log: &[u8], tail: usize, offset: u64) {
+    let answer = entry(log, tail, offset);
+    line(text, &format!("entry {offset}"), answer, |entry| {
+        let mut shown = format!(
+            "{} {} {} {}",
+            entry.kind as u32, entry.number, entry.headers, entry.items
+        );
+        for place in 0..entry.headers as u32 {
+            if let Answer::Done(header) = header(log, tail, offset, place) {
+                let _ = write!(
+                    shown,
+                    " {} {} {}",
+                    header.object, header.format, header.pointer
+                );
+            }
+        }
+        shown
+    });
+    let _ = write!(text, "items {offset}");
+    for word in items(log, tail, offset).chunks_exact(4) {
+        let word = u32::from_be_bytes([word[0], word[1], word[2], word[3]]);
+        let _ = write!(text, " {word}");
+    }
+    text.push('\n');
+}
+
+fn print_next(text: &mut String, log: &[u8], tail: usize, object: u32, from: u64) {
+    let (answer, reader) = next(log, tail, object, from);
+    let shown = shown(answer, |next| {
+        next.map_or("end".to_string(), |offset| offset.to_string())
+    });
+    let _ = writeln!(text, "next {object} {from} {shown} {reader}");
+}
+
+fn print_list(text: &mut String, log: &[u8], tail: usize, object: u32, length: usize) {
+    let mut lent = vec![FILLED; length];
+    let answer = list(log, tail, object, &mut lent);
+    let shown = shown(answer, |count| count.to_string());
+    let _ = write!(text, "list {object} {length} {shown}");
+    for number in lent {
+        let _ = write!(text, " {number}");
+    }
+    text.push('\n');
+}

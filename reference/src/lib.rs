@@ -1,0 +1,24 @@
+//! The shared stock log of document 01, a second time: plain Rust, written from the document alone.
+//!
+//! Every call takes lent bytes and numbers of any value and ends in an `Answer`: done, or a refusal with
+//! document 01's number and, where one is told, an offset. No call panics.
+
+pub mod answer;
+pub mod append;
+pub mod audit;
+pub mod broken;
+pub mod bytes;
+pub mod cases;
+pub mod earlier;
+pub mod log;
+pub mod objects;
+pub mod random;
+pub mod replica;
+pub mod report;
+pub mod rules;
+pub mod run;
+pub mod sample;
+pub mod slot;
+pub mod table;
+
+pub use answer::{Answer, Refusal};

@@ -1,0 +1,423 @@
+//! Random histories from a seed: few keys, several open transactions, stale and fresh reads, true and false
+//! decisions and checkpoints, and now and then a broken request. The same seed makes the same history.
+
+use crate::answer::Answer;
+use crate::append::{Request, Writer};
+use crate::objects::{ids, object, set_of};
+use crate::replica::Record;
+use crate::run::Run;
+use crate::sample::{commit, decision, put, read, remove, rows_of, table_of, update};
+use crate::slot::{Read, Write, ABORT, COMMIT, SLOT};
+use crate::table::Row;
+
+/// Splitmix64.
+#[derive(Clone, Debug)]
+pub struct Random(u64);
+
+impl Random {
+    pub fn new(seed: u64) -> Random {
+        Random(seed)
+    }
+
+    pub fn number(&mut self) -> u64 {
+        self.0 = self.0.wrapping_add(0x9E37_79B9_7F4A_7C15);
+        let mut mixed = self.0;
+        mixed = (mixed ^ mixed >> 30).wrapping_mul(0xBF58_476D_1CE4_E5B9);
+        mixed = (mixed ^ mixed >> 27).wrapping_mul(0x94D0_49BB_1331_11EB);
+        mixed ^ mixed >> 31
+    }
+
+    /// A number below the bound; 0 for bound 0.
+    pub fn below(&mut self, bound: u64) -> u64 {
+        self.number() % bound.max(1)
+    }
+
+    pub fn percent(&mut self, chance: u64) -> bool {
+        self.below(100) < chance
+    }
+
+    pub fn pick<T: Copy>(&mut self, choices: &[T]) -> Option<T> {
+        choices
+            .get(self.below(choices.len() as u64) as usize)
+            .copied()
+    }
+}
+
+/// Numbers at the edges of what a call takes.
+pub const EDGES: [u64; 14] = [
+    0,
+    1,
+    2,
+    3,
+    7,
+    12,
+    255,
+    256,
+    131_072,
+    131_073,
+    u32::MAX as u64,
+    1 << 32,
+    1 << 63,
+    u64::MAX,
+];
+
+/// A number at an edge or just below one.
+pub fn edge(random: &mut Random) -> u64 {
+    let back = u64::from(random.percent(20));
+    random.pick(&EDGES).unwrap_or(0).wrapping_sub(back)
+}
+
+/// Any bytes, at most so many.
+pub fn junk(random: &mut Random, longest: u64) -> Vec<u8> {
+    let length = random.below(longest + 1);
+    (0..length).map(|_| random.number() as u8).collect()
+}
+
+/// What a history is like.
+#[derive(Clone, Copy, Debug)]
+pub struct Mix {
+    /// The objects in use.
+    pub objects: u8,
+    /// How many keys of each object are in use.
+    pub keys: u32,
+    /// How many transactions are open at once.
+    pub open: usize,
+    /// Chances in percent: a read has an old version, a decision or checkpoint is false, a request is broken.
+    pub stale: u64,
+    pub false_decisions: u64,
+    pub false_checkpoints: u64,
+    pub broken: u64,
+}
+
+impl Mix {
+    /// Good requests that the audit passes.
+    pub fn true_records() -> Mix {
+        Mix {
+            objects: 0xFF,
+            keys: 3,
+            open: 4,
+            stale: 15,
+            false_decisions: 0,
+            false_checkpoints: 0,
+            broken: 0,
+        }
+    }
+
+    /// Some of everything.
+    pub fn rough() -> Mix {
+        Mix {
+            stale: 25,
+            false_decisions: 10,
+            false_checkpoints: 10,
+            broken: 12,
+            ..Mix::true_records()
+        }
+    }
+
+    /// As rough, with two objects of many keys, so that a checkpoint may have too many cells.
+    pub fn crowded() -> Mix {
+        Mix {
+            objects: 0b1_0010,
+            keys: 16,
+            ..Mix::rough()
+        }
+    }
+}
+
+/// A log that grows by random appends.
+#[derive(Clone)]
+pub struct History {
+    pub random: Random,
+    pub mix: Mix,
+    pub writer: Writer,
+    pub run: Run,
+    /// Every append's arguments and answer, in order.
+    pub appends: Vec<(Request, Answer<usize>)>,
+    open: Vec<u32>,
+    last_number: u32,
+    undecided: Vec<u64>,
+}
+
+impl History {
+    pub fn new(seed: u64, slots: usize, mix: Mix) -> History {
+        History {
+            random: Random::new(seed),
+            mix,
+            writer: Writer::new(slots),
+            run: Run::new(),
+            appends: Vec::new(),
+            open: Vec::new(),
+            last_number: 0,
+            undecided: Vec::new(),
+        }
+    }
+
+    /// A history of so many appends, refused ones too.
+    pub fn made(seed: u64, slots: usize, appends: usize, mix: Mix) -> History {
+        let mut history = History::new(seed, slots, mix);
+        for _ in 0..appends {
+            history.step();
+        }
+        history
+    }
+
+    /// One random append.
+    pub fn step(&mut self) -> Answer<usize> {
+        let mut request = self.request();
+        if self.random.percent(self.mix.broken) {
+            broken(&mut self.random, &mut request, self.writer.tail);
+        }
+        self.append(request)
+    }
+
+    /// Appends a request and keeps the books.
+    pub fn append(&mut self, request: Request) -> Answer<usize> {
+        let at = self.writer.tail as u64;
+        let answer = self.writer.append(&request);
+        self.run.feed(&request, !answer.is_done());
+        if answer.is_done() {
+            self.note(&request, at);
+        }
+        self.appends.push((request, answer));
+        answer
+    }
+
+    fn note(&mut self, request: &Request, at: u64) {
+        match request {
+            Request::Update { number, .. } if *number != 0 && !self.open.contains(number) => {
+                self.open.push(*number);
+            }
+            Request::Commit { number, .. } => {
+                self.open.retain(|open| open != number);
+                self.undecided.push(at);
+            }
+            Request::Decision { offset, .. } => self.undecided.retain(|commit| commit != offset),
+            _ => {}
+        }
+    }
+
+    /// A request that breaks no slot rule; it may be refused with 4 to 9 and 13.
+    pub fn request(&mut self) -> Request {
+        match self.random.below(100) {
+            0..=24 => update(0, &self.writes()),
+            25..=59 => {
+                let number = self.transaction();
+                update(number, &self.writes())
+            }
+            60..=79 => self.commit(),
+            80..=91 => self.decision(),
+            _ => self.checkpoint(),
+        }
+    }
+
+    fn cell(&mut self) -> (u32, u32) {
+        let objects: Vec<u32> = ids(self.mix.objects).collect();
+        let id = self.random.pick(&objects).unwrap_or(1);
+        let highest = object(id).map_or(0, |object| object.highest_key);
+        let keys = self.mix.keys.min(highest + 1);
+        (id, self.random.below(u64::from(keys)) as u32)
+    }
+
+    fn writes(&mut self) -> Vec<Write> {
+        let count = if self.random.percent(4) {
+            1 + self.random.below(12)
+        } else {
+            1 + self.random.below(3)
+        };
+        (0..count).map(|_| self.write()).collect()
+    }
+
+    fn write(&mut self) -> Write {
+        let (object, key) = self.cell();
+        if self.random.percent(20) {
+            remove(object, key)
+        } else {
+            put(object, key, self.random.below(5) as u32)
+        }
+    }
+
+    /// The number of an open transaction, or a new one, or rarely any used one.
+    fn transaction(&mut self) -> u32 {
+        if self.random.percent(3) {
+            return 1 + self.random.below(u64::from(self.last_number) + 1) as u32;
+        }
+        if self.open.len() < self.mix.open && self.random.percent(60) {
+            self.last_number += 1;
+            return self.last_number;
+        }
+        self.random.pick(&self.open.clone()).unwrap_or(1)
+    }
+
+    fn commit(&mut self) -> Request {
+        let open = self.open.clone();
+        let number = match self.random.pick(&open) {
+            Some(number) if !self.random.percent(3) => number,
+            _ => 1 + self.random.below(u64::from(self.last_number) + 2) as u32,
+        };
+        commit(number, &self.reads())
+    }
+
+    fn reads(&mut self) -> Vec<Read> {
+        let count = if self.random.percent(3) {
+            self.random.below(13)
+        } else {
+            self.random.below(4)
+        };
+        let mut cells: Vec<(u32, u32)> = (0..count).map(|_| self.cell()).collect();
+        cells.sort_unstable();
+        cells.dedup();
+        cells
+            .into_iter()
+            .map(|(object, key)| read(object, key, self.version(object, key)))
+            .collect()
+    }
+
+    /// The cell's version, or any that a read may have.
+    fn version(&mut self, object: u32, key: u32) -> u64 {
+        if self.random.percent(self.mix.stale) {
+            self.random.below(self.writer.tail as u64 + 1)
+        } else {
+            self.run.cell(object, key).version()
+        }
+    }
+
+    fn decision(&mut self) -> Request {
+        let undecided = self.undecided.clone();
+        let offset = match self.random.pick(&undecided) {
+            Some(offset) if !self.random.percent(5) => offset,
+            _ => self.random.below(self.writer.tail as u64),
+        };
+        let commits = self.run.outcome(offset + 1).unwrap_or(false);
+        let lies = self.random.percent(self.mix.false_decisions);
+        decision(offset, if commits != lies { COMMIT } else { ABORT })
+    }
+
+    /// A checkpoint from the run's cells; a false one has one cell changed.
+    fn checkpoint(&mut self) -> Request {
+        let (object, _) = self.cell();
+        let hosted = set_of(object) | self.random.number() as u8;
+        let mut rows = rows_of(&self.run, hosted);
+        self.shuffle(&mut rows);
+        if self.random.percent(self.mix.false_checkpoints) {
+            self.falsify(&mut rows, object);
+        }
+        if self.random.percent(10) {
+            self.repeat(&mut rows);
+        }
+        let mut table = table_of(&rows);
+        let spare = self.random.below(60) as usize;
+        table.resize(table.len() + spare, 0xEE);
+        Request::Checkpoint {
+            record: Record {
+                hosted,
+                position: self.writer.tail as u64,
+                count: rows.len() as u64,
+            },
+            table,
+            object,
+        }
+    }
+
+    fn shuffle(&mut self, rows: &mut [Row]) {
+        for last in (1..rows.len()).rev() {
+            rows.swap(last, self.random.below(last as u64 + 1) as usize);
+        }
+    }
+
+    fn falsify(&mut self, rows: &mut Vec<Row>, object: u32) {
+        let own: Vec<usize> = (0..rows.len())
+            .filter(|&place| rows[place].object == object)
+            .collect();
+        let Some(place) = self.random.pick(&own) else {
+            return;
+        };
+        match self.random.below(5) {
+            0 => rows[place].value ^= 1,
+            1 => rows[place].present ^= 1,
+            2 => rows[place].version = 1 + self.random.below(self.writer.tail as u64),
+            3 => rows[place].key = self.random.below(2) as u32,
+            _ => {
+                rows.remove(place);
+            }
+        }
+    }
+
+    /// Repeats a cell further down with other content, which never counts; and stores a removed cell otherwise.
+    fn repeat(&mut self, rows: &mut Vec<Row>) {
+        if let Some(first) = self.random.pick(&rows.clone()) {
+            rows.push(Row {
+                value: first.value ^ 5,
+                version: self.random.number(),
+                ..first
+            });
+        }
+        for row in rows.iter_mut().filter(|row| row.present != 1) {
+            row.present = 2 + self.random.below(9) as u32;
+            row.value = self.random.below(100) as u32;
+        }
+    }
+}
+
+/// Breaks one argument of a request.
+pub fn broken(random: &mut Random, request: &mut Request, tail: usize) {
+    match request {
+        Request::Update { items, .. } => break_items(random, items),
+        Request::Commit { number, reads } => match random.below(4) {
+            0 => *number = 0,
+            1 => reads.extend(read(2, 499, tail as u64 + 1).bytes()),
+            _ => break_items(random, reads),
+        },
+        Request::Decision { offset, outcome } => match random.below(5) {
+            0 => *outcome = 0,
+            1 => *outcome = 3,
+            2 => *offset = tail as u64 + random.below(2),
+            3 => *offset = u64::MAX,
+            _ => *offset = random.below(tail as u64),
+        },
+        Request::Checkpoint {
+            record,
+            table,
+            object,
+        } => match random.below(8) {
+            0 => record.hosted = 0,
+            1 => record.count = table.len() as u64 / 24 + 1,
+            2 => record.position = tail as u64 + 1,
+            3 => record.position = (tail as u64).saturating_sub(1),
+            4 => *object = random.below(10) as u32,
+            5 => record.count = u64::MAX,
+            6 => record.hosted ^= set_of(*object),
+            _ => flip(random, table),
+        },
+    }
+}
+
+fn break_items(random: &mut Random, items: &mut Vec<u8>) {
+    match random.below(4) {
+        0 => items.truncate(random.below(items.len() as u64 + 1) as usize),
+        1 => items.resize(13 * 16, 0),
+        2 => {
+            let whole = items.clone();
+            items.extend(whole);
+        }
+        _ => flip(random, items),
+    }
+}
+
+/// Changes one random byte.
+pub fn flip(random: &mut Random, bytes: &mut [u8]) {
+    let place = random.below(bytes.len() as u64) as usize;
+    let change = match random.below(3) {
+        0 => 1,
+        1 => 1 << random.below(8),
+        _ => 1 + random.below(255) as u8,
+    };
+    if let Some(byte) = bytes.get_mut(place) {
+        *byte ^= change;
+    }
+}
+
+/// Changes one random byte below the tail.
+pub fn damage(random: &mut Random, log: &mut [u8], tail: usize) {
+    let used = log.len().min(tail * SLOT);
+    flip(random, &mut log[..used]);
+}

@@ -1,0 +1,283 @@
+//! "Playing": openings, play and cell reading.
+
+use crate::answer::{
+    refuse, refuse_if, Answer, Refusal, BAD_REPLICA, BAD_REQUEST, NO_ROOM, WAITING,
+};
+use crate::earlier::Earlier;
+use crate::log::{below, pass};
+use crate::objects::{has, is_cell, set_of};
+use crate::slot::{slot_at, Kind, Slot, Write, COMMIT, PUT};
+use crate::table::{capacity, put_row, row, rows, Cell, Index, Row};
+
+/// The part of a replica that is not its table.
+#[derive(Clone, Copy, Debug, PartialEq, Eq)]
+pub struct Record {
+    pub hosted: u8,
+    pub position: u64,
+    pub count: u64,
+}
+
+/// The one place that turns an offset into a version: "offset plus 1".
+pub fn version_at(at: usize) -> u64 {
+    at as u64 + 1
+}
+
+/// 10: "hosted set 0, count over capacity".
+pub fn replica_good(record: &Record, table: &[u8]) -> Result<(), Refusal> {
+    refuse_if(
+        record.hosted == 0 || record.count > capacity(table) as u64,
+        BAD_REPLICA,
+    )
+}
+
+/// 10, with "position over the tail".
+pub fn replica_good_at(record: &Record, table: &[u8], tail: usize) -> Result<(), Refusal> {
+    replica_good(record, table)?;
+    refuse_if(record.position > tail as u64, BAD_REPLICA)
+}
+
+pub fn open_fresh(hosted: u8) -> Answer<Record> {
+    refuse_if(hosted == 0, BAD_REPLICA)
+        .map(|_| Record {
+            hosted,
+            position: 0,
+            count: 0,
+        })
+        .into()
+}
+
+/// "A replica opened at a checkpoint hosts that object alone, from the next offset, its cells in key order."
+pub fn open_at(log: &[u8], tail: usize, offset: u64, table: &mut [u8]) -> Answer<Record> {
+    opened(log, tail, offset, table).into()
+}
+
+fn opened(log: &[u8], tail: usize, offset: u64, table: &mut [u8]) -> Result<Record, Refusal> {
+    pass(log, tail)?;
+    let at = below(offset, tail)?;
+    let slot = slot_at(log, at);
+    refuse_if(slot.kind() != Some(Kind::Checkpoint), BAD_REQUEST)?;
+    refuse_if(slot.item_count() > capacity(table), NO_ROOM)?;
+    let object = slot.header(0).object;
+    for (place, saved) in slot.saved().enumerate() {
+        let value = (!saved.removed()).then_some(saved.value);
+        put_row(
+            table,
+            place,
+            Row::of(object, saved.key, value, saved.version()),
+        );
+    }
+    Ok(Record {
+        hosted: set_of(object),
+        position: offset + 1,
+        count: slot.item_count() as u64,
+    })
+}
+
+/// Plays up to a stop, and answers the record as it is left.
+pub fn play(
+    log: &[u8],
+    tail: usize,
+    record: Record,
+    table: &mut [u8],
+    stop: u64,
+) -> (Answer<()>, Record) {
+    let mut moved = record;
+    let answer = play_in_place(log, tail, &mut moved, table, stop);
+    (answer, moved)
+}
+
+/// "A player's record can also be moved on in place, with the answers of the ordinary call."
+pub fn play_in_place(
+    log: &[u8],
+    tail: usize,
+    record: &mut Record,
+    table: &mut [u8],
+    stop: u64,
+) -> Answer<()> {
+    play_to(log, tail, record, table, stop).into()
+}
+
+fn play_to(
+    log: &[u8],
+    tail: usize,
+    record: &mut Record,
+    table: &mut [u8],
+    stop: u64,
+) -> Result<(), Refusal> {
+    let earlier = pass(log, tail)?;
+    replica_good_at(record, table, tail)?;
+    refuse_if(stop > tail as u64 || stop < record.position, BAD_REQUEST)?;
+    let mut player = Player::new(log, &earlier, record, table);
+    let mut answer = Ok(());
+    while answer.is_ok() && record.position < stop {
+        match player.step(record.position as usize) {
+            Step::Waits => answer = refuse(WAITING),
+            Step::LacksRoom => answer = refuse(NO_ROOM),
+            _ => record.position += 1,
+        }
+    }
+    record.count = player.count as u64;
+    answer
+}
+
+/// How an entry was played.
+#[derive(Clone, Copy, Debug, PartialEq, Eq)]
+pub enum Step {
+    Passed,
+    Commits,
+    Aborts,
+    /// Nothing of the entry shows.
+    Waits,
+    /// Nothing of the entry shows.
+    LacksRoom,
+}
+
+/// Plays the entries of a checked log, one at a time, over a table.
+pub struct Player<'a> {
+    log: &'a [u8],
+    earlier: &'a Earlier,
+    hosted: u8,
+    pub table: &'a mut [u8],
+    pub count: usize,
+    pub index: Index,
+}
+
+impl<'a> Player<'a> {
+    /// For a record that is no bad replica.
+    pub fn new(
+        log: &'a [u8],
+        earlier: &'a Earlier,
+        record: &Record,
+        table: &'a mut [u8],
+    ) -> Player<'a> {
+        let count = record.count as usize;
+        let index = Index::of(table, count);
+        Player {
+            log,
+            earlier,
+            hosted: record.hosted,
+            table,
+            count,
+            index,
+        }
+    }
+
+    /// Plays the entry at an offset; "those of no hosted object are passed over".
+    pub fn step(&mut self, at: usize) -> Step {
+        let slot = slot_at(self.log, at);
+        if slot.objects() & self.hosted == 0 {
+            return Step::Passed;
+        }
+        match slot.kind() {
+            // "A plain update applies its hosted writes with version offset plus 1."
+            Some(Kind::Update) if slot.number() == 0 => self.apply(&[at], at, Step::Passed),
+            Some(Kind::Commit) => self.finish(slot, at),
+            // "A numbered update does nothing yet." "Decision and checkpoint entries change no cell."
+            _ => Step::Passed,
+        }
+    }
+
+    fn finish(&mut self, commit: Slot, at: usize) -> Step {
+        match self.outcome(commit, at) {
+            None => Step::Waits,
+            Some(false) => Step::Aborts,
+            // "the hosted writes of all its number's updates, in log order, are applied with the commit
+            // record's offset plus 1"
+            Some(true) => {
+                let updates = self.earlier.updates(commit.number());
+                self.apply(&updates, at, Step::Commits)
+            }
+        }
+    }
+
+    /// "If the replica does not host all objects read, it takes the outcome from a decision record anywhere below
+    /// the tail, else waits."
+    fn outcome(&self, commit: Slot, at: usize) -> Option<bool> {
+        if commit.reads().all(|read| has(self.hosted, read.object)) {
+            return Some(self.reads_current(commit));
+        }
+        self.earlier
+            .decision(at)
+            .map(|decided| decided.outcome == COMMIT)
+    }
+
+    /// "A commit record commits when every read's version is the cell's present version."
+    fn reads_current(&self, commit: Slot) -> bool {
+        commit
+            .reads()
+            .all(|read| read.version == self.version(read.object, read.key))
+    }
+
+    fn version(&self, object: u32, key: u32) -> u64 {
+        self.index
+            .find(object, key)
+            .map_or(0, |place| row(self.table, place).version)
+    }
+
+    /// Applies the hosted writes of these updates with the version of `at`, all of them or none for want of room.
+    fn apply(&mut self, updates: &[usize], at: usize, done: Step) -> Step {
+        if !self.find_room(updates) {
+            return Step::LacksRoom;
+        }
+        let version = version_at(at);
+        for write in self.hosted_writes(updates) {
+            if let Some(place) = self.index.find(write.object, write.key) {
+                let value = (write.operation == PUT).then_some(write.value);
+                let row = Row::of(write.object, write.key, value, version);
+                put_row(self.table, place, row);
+                self.count = self.count.max(place + 1);
+            }
+        }
+        done
+    }
+
+    /// Gives the new cells of these updates their rows, "in order of first writing", if there are enough.
+    fn find_room(&mut self, updates: &[usize]) -> bool {
+        let free = capacity(self.table) - self.count;
+        let mut fresh = Vec::new();
+        for write in self.hosted_writes(updates) {
+            if self.index.find(write.object, write.key).is_none() {
+                self.index
+                    .add(write.object, write.key, self.count + fresh.len());
+                fresh.push(write);
+            }
+        }
+        if fresh.len() > free {
+            for write in fresh {
+                self.index.forget(write.object, write.key);
+            }
+            return false;
+        }
+        true
+    }
+
+    fn hosted_writes<'b>(&self, updates: &'b [usize]) -> impl Iterator<Item = Write> + 'b
+    where
+        'a: 'b,
+    {
+        let (log, hosted) = (self.log, self.hosted);
+        updates
+            .iter()
+            .flat_map(move |&update| slot_at(log, update).writes())
+            .filter(move |write| has(hosted, write.object))
+    }
+}
+
+/// What a cell of the replica holds.
+pub fn read_cell(record: &Record, table: &[u8], object: u32, key: u32) -> Answer<Cell> {
+    cell_of(record, table, object, key).into()
+}
+
+fn cell_of(record: &Record, table: &[u8], object: u32, key: u32) -> Result<Cell, Refusal> {
+    replica_good(record, table)?;
+    refuse_if(
+        !is_cell(object, key) || !has(record.hosted, object),
+        BAD_REQUEST,
+    )?;
+    let first =
+        rows(table, record.count as usize).find(|row| (row.object, row.key) == (object, key));
+    Ok(match first {
+        None => Cell::NeverWritten,
+        Some(row) => Cell::of(row.held(), row.version),
+    })
+}

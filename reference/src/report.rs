@@ -1,0 +1,64 @@
+//! What *playlog* prints of its standard input.
+
+use std::fmt::Write;
+
+use crate::answer::{Answer, FRAME};
+use crate::audit::{audit_whole, Audited};
+use crate::slot::{slot_at, Kind, SLOT};
+use crate::table::{rows, CELL};
+
+pub const LONGEST_INPUT: usize = 65_536;
+pub const TABLE_CELLS: usize = 2_730;
+
+/// "audits it, plays all, and prints". The audit's scratch is left as played to the tail, which is the play of
+/// everything.
+pub fn playlog(input: &[u8]) -> String {
+    // "Longer input is refused 1"
+    if input.len() > LONGEST_INPUT {
+        return refusal(FRAME, None);
+    }
+    let tail = input.len() / SLOT;
+    let mut table = vec![0; TABLE_CELLS * CELL];
+    let audited = audit_whole(input, tail, &mut table);
+    match audited.answer {
+        Answer::Refused { number, offset } => refusal(number, offset),
+        Answer::Done(()) => outcomes(input, tail, &audited) + &cells(&table, &audited),
+    }
+}
+
+/// "refused N at K", K the offset or "-".
+fn refusal(number: u32, offset: Option<u64>) -> String {
+    let place = offset.map_or("-".to_string(), |offset| offset.to_string());
+    format!("refused {number} at {place}\n")
+}
+
+/// "commit records in log order"
+fn outcomes(log: &[u8], tail: usize, audited: &Audited) -> String {
+    let mut text = String::from("offset number outcome\n");
+    for at in 0..tail {
+        let slot = slot_at(log, at);
+        if slot.kind() == Some(Kind::Commit) {
+            let outcome = if audited.committed[at] {
+                "commit"
+            } else {
+                "abort"
+            };
+            let _ = writeln!(text, "{at} {} {outcome}", slot.number());
+        }
+    }
+    text
+}
+
+/// "then cells ascending, "-" for a removed value"
+fn cells(table: &[u8], audited: &Audited) -> String {
+    let mut sorted: Vec<_> = rows(table, audited.record.count as usize).collect();
+    sorted.sort_by_key(|row| (row.object, row.key));
+    let mut text = String::from("object key value version\n");
+    for row in sorted {
+        let value = row
+            .held()
+            .map_or("-".to_string(), |value| value.to_string());
+        let _ = writeln!(text, "{} {} {value} {}", row.object, row.key, row.version);
+    }
+    text
+}

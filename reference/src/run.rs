@@ -1,0 +1,88 @@
+//! "The one-by-one run is fed each append's arguments in order, and whether it was refused." It sees no log.
+
+use std::collections::{BTreeMap, HashMap};
+
+use crate::append::Request;
+use crate::objects::has;
+use crate::slot::{reads_in, writes_in, Write, PUT};
+use crate::table::Cell;
+
+/// "It starts with count 0, all cells never written and no writes set aside."
+#[derive(Clone, Debug, Default)]
+pub struct Run {
+    pub count: u64,
+    /// The written cells, by object and key.
+    cells: BTreeMap<(u32, u32), Cell>,
+    aside: HashMap<u32, Vec<Write>>,
+    /// For each commit, by its count: it committed.
+    outcomes: BTreeMap<u64, bool>,
+}
+
+impl Run {
+    pub fn new() -> Run {
+        Run::default()
+    }
+
+    /// "A refused append changes nothing; any other first adds 1 to the count."
+    pub fn feed(&mut self, request: &Request, refused: bool) {
+        if refused {
+            return;
+        }
+        self.count += 1;
+        match request {
+            Request::Update { number: 0, items } => self.make(writes_in(items)),
+            // "a numbered one sets them aside after its number's earlier ones"
+            Request::Update { number, items } => self
+                .aside
+                .entry(*number)
+                .or_default()
+                .extend(writes_in(items)),
+            Request::Commit { number, reads } => self.commit(*number, reads),
+            // "Nothing else changes a cell."
+            Request::Decision { .. } | Request::Checkpoint { .. } => {}
+        }
+    }
+
+    /// "A commit whose reads all have their cells' versions makes its number's writes in order, with the count as
+    /// version; any other aborts."
+    fn commit(&mut self, number: u32, reads: &[u8]) {
+        let commits =
+            reads_in(reads).all(|read| self.cell(read.object, read.key).version() == read.version);
+        self.outcomes.insert(self.count, commits);
+        if commits {
+            let writes = self.aside.get(&number).cloned().unwrap_or_default();
+            self.make(writes.into_iter());
+        }
+    }
+
+    /// Makes writes in order, "with the count as version".
+    fn make(&mut self, writes: impl Iterator<Item = Write>) {
+        for write in writes {
+            let value = (write.operation == PUT).then_some(write.value);
+            let cell = Cell::of(value, self.count);
+            self.cells.insert((write.object, write.key), cell);
+        }
+    }
+
+    pub fn cell(&self, object: u32, key: u32) -> Cell {
+        self.cells
+            .get(&(object, key))
+            .copied()
+            .unwrap_or(Cell::NeverWritten)
+    }
+
+    /// The written cells, by object and key.
+    pub fn written(&self) -> impl Iterator<Item = ((u32, u32), Cell)> + '_ {
+        self.cells.iter().map(|(cell, held)| (*cell, *held))
+    }
+
+    /// How many cells of a set of objects have been written.
+    pub fn written_of(&self, hosted: u8) -> u64 {
+        self.cells.keys().filter(|cell| has(hosted, cell.0)).count() as u64
+    }
+
+    /// The outcome of the commit that was run with this count.
+    pub fn outcome(&self, count: u64) -> Option<bool> {
+        self.outcomes.get(&count).copied()
+    }
+}

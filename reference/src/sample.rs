@@ -1,0 +1,139 @@
+//! Requests and small logs in few words, for tests, stored vectors and random histories.
+
+use crate::append::{Request, Writer};
+use crate::objects::has;
+use crate::replica::{open_fresh, play, Record};
+use crate::run::Run;
+use crate::slot::{Read, Write, PUT, REMOVE, SLOT};
+use crate::table::{Cell, Row, CELL};
+
+pub fn put(object: u32, key: u32, value: u32) -> Write {
+    Write {
+        object,
+        key,
+        operation: PUT,
+        value,
+    }
+}
+
+pub fn remove(object: u32, key: u32) -> Write {
+    Write {
+        object,
+        key,
+        operation: REMOVE,
+        value: 0,
+    }
+}
+
+pub fn read(object: u32, key: u32, version: u64) -> Read {
+    Read {
+        object,
+        key,
+        version,
+    }
+}
+
+pub fn write_bytes(writes: &[Write]) -> Vec<u8> {
+    writes.iter().flat_map(|write| write.bytes()).collect()
+}
+
+pub fn read_bytes(reads: &[Read]) -> Vec<u8> {
+    reads.iter().flat_map(|read| read.bytes()).collect()
+}
+
+pub fn update(number: u32, writes: &[Write]) -> Request {
+    Request::Update {
+        number,
+        items: write_bytes(writes),
+    }
+}
+
+pub fn commit(number: u32, reads: &[Read]) -> Request {
+    Request::Commit {
+        number,
+        reads: read_bytes(reads),
+    }
+}
+
+pub fn decision(offset: u64, outcome: u32) -> Request {
+    Request::Decision { offset, outcome }
+}
+
+/// The bytes of a table with these rows and no room for more.
+pub fn table_of(rows: &[Row]) -> Vec<u8> {
+    rows.iter().flat_map(|row| row.bytes()).collect()
+}
+
+/// A checkpoint of an object by a replica of it alone, at `position`, whose table has these rows.
+pub fn checkpoint_of(object: u32, position: usize, rows: &[Row]) -> Request {
+    Request::Checkpoint {
+        record: Record {
+            hosted: crate::objects::set_of(object),
+            position: position as u64,
+            count: rows.len() as u64,
+        },
+        table: table_of(rows),
+        object,
+    }
+}
+
+/// A full replica played to the tail, with room for `cells` cells.
+pub fn played(log: &[u8], tail: usize, hosted: u8, cells: usize) -> (Record, Vec<u8>) {
+    let mut table = vec![0; cells * CELL];
+    let fresh = open_fresh(hosted).done().unwrap_or(Record {
+        hosted,
+        position: 0,
+        count: 0,
+    });
+    let (_, record) = play(log, tail, fresh, &mut table, tail as u64);
+    (record, table)
+}
+
+/// The table rows of the run's written cells of a set of objects, by object and key.
+pub fn rows_of(run: &Run, hosted: u8) -> Vec<Row> {
+    run.written()
+        .filter(|((object, _), _)| has(hosted, *object))
+        .map(|((object, key), cell)| match cell {
+            Cell::Holds { value, version } => Row::of(object, key, Some(value), version),
+            _ => Row::of(object, key, None, cell.version()),
+        })
+        .collect()
+}
+
+/// A log of these appends and the run of them; a refused append stops it.
+pub fn grown(slots: usize, requests: &[Request]) -> (Writer, Run) {
+    let mut writer = Writer::new(slots);
+    let mut run = Run::new();
+    for request in requests {
+        let answer = writer.append(request);
+        assert!(answer.is_done(), "{request:?} is refused: {answer:?}");
+        run.feed(request, false);
+    }
+    (writer, run)
+}
+
+/// The bytes of a log of these appends, all slots used.
+pub fn log_of(requests: &[Request]) -> Vec<u8> {
+    grown(requests.len(), requests).0.log
+}
+
+/// The bench log: object 2, key 7.
+pub fn bench() -> Vec<Request> {
+    bench_with(1)
+}
+
+/// The bench log with another read version at entry 3.
+pub fn bench_with(version: u64) -> Vec<Request> {
+    vec![
+        update(0, &[put(2, 7, 43)]),
+        update(9, &[put(2, 7, 42)]),
+        update(10, &[put(2, 7, 40)]),
+        commit(9, &[read(2, 7, version)]),
+        commit(10, &[read(2, 7, 1)]),
+    ]
+}
+
+/// The slot at an offset, to be changed.
+pub fn slot_mut(log: &mut [u8], at: usize) -> &mut [u8] {
+    &mut log[at * SLOT..at * SLOT + SLOT]
+}

@@ -1,0 +1,272 @@
+//! Demand 3 on random histories, and demand 1's "numbers of any kind".
+
+use reference::append::{self, Request};
+use reference::audit::audit;
+use reference::log::{check, entry, header, items, list, next, owed, stretch};
+use reference::objects::{has, set_of, OBJECTS};
+use reference::random::{edge, flip, junk, History, Mix, Random};
+use reference::replica::{open_at, open_fresh, play, read_cell, Record};
+use reference::run::Run;
+use reference::slot::{slot_at, Kind, SLOT};
+use reference::table::CELL;
+use reference::Answer;
+
+/// The run after each count.
+fn runs(history: &History) -> Vec<Run> {
+    let mut run = Run::new();
+    let mut states = vec![run.clone()];
+    for (request, answer) in &history.appends {
+        run.feed(request, !answer.is_done());
+        if answer.is_done() {
+            states.push(run.clone());
+        }
+    }
+    states
+}
+
+/// At position p the replica's cells are what the run had at count p, and its count is how many were written.
+fn shows(record: &Record, table: &[u8], states: &[Run], keys: u32) {
+    let run = &states[record.position as usize];
+    assert_eq!(record.count, run.written_of(record.hosted));
+    for object in OBJECTS
+        .iter()
+        .filter(|object| has(record.hosted, object.id))
+    {
+        for key in 0..keys.min(object.highest_key + 1) {
+            let shown = read_cell(record, table, object.id, key);
+            assert_eq!(shown, Answer::Done(run.cell(object.id, key)));
+        }
+    }
+}
+
+/// A replica waits exactly at a commit record of its objects whose reads it does not all host and whose decision is
+/// not below the tail.
+fn must_wait(log: &[u8], tail: usize, hosted: u8, at: usize) -> bool {
+    let slot = slot_at(log, at);
+    let decided = (0..tail).any(|later| {
+        let other = slot_at(log, later);
+        other.kind() == Some(Kind::Decision) && other.verdict().commit == at as u64
+    });
+    slot.kind() == Some(Kind::Commit)
+        && slot.objects() & hosted != 0
+        && slot.reads().any(|read| !has(hosted, read.object))
+        && !decided
+}
+
+struct Counts {
+    waits: u32,
+    no_room: u32,
+    opened: u32,
+    plays: u32,
+}
+
+fn play_at_random(history: &History, random: &mut Random, counts: &mut Counts) {
+    let (log, tail) = (&history.writer.log, history.writer.tail);
+    let states = runs(history);
+    let mut table = vec![0xAA; random.below(30) as usize * CELL + 5];
+    let first_tail = random.below(tail as u64 + 1) as usize;
+    let opened = if random.percent(40) {
+        let checkpoints: Vec<u64> = (0..first_tail)
+            .filter(|&at| slot_at(log, at).kind() == Some(Kind::Checkpoint))
+            .map(|at| at as u64)
+            .collect();
+        let offset = random.pick(&checkpoints).unwrap_or(u64::MAX);
+        open_at(log, first_tail, offset, &mut table)
+    } else {
+        open_fresh(random.number() as u8)
+    };
+    let Answer::Done(mut record) = opened else {
+        return;
+    };
+    counts.opened += 1;
+    shows(&record, &table, &states, history.mix.keys);
+    for _ in 0..6 {
+        let seen_tail = random.below(tail as u64 + 1) as usize;
+        let stop = random.below(tail as u64 + 2);
+        let before = (record, table.clone());
+        let (answer, after) = play(log, seen_tail, record, &mut table, stop);
+        counts.plays += 1;
+        match answer.number() {
+            0 => assert_eq!(after.position, stop),
+            12 => {
+                counts.waits += 1;
+                let at = after.position as usize;
+                assert!(after.position < stop);
+                assert!(must_wait(log, seen_tail, record.hosted, at));
+            }
+            13 => counts.no_room += 1,
+            _ => assert_eq!((after, &table), (before.0, &before.1)),
+        }
+        // It passed no entry at which it had to wait.
+        for at in before.0.position..after.position {
+            assert!(!must_wait(log, seen_tail, record.hosted, at as usize));
+        }
+        record = after;
+        shows(&record, &table, &states, history.mix.keys);
+    }
+}
+
+#[test]
+fn replicas_of_audited_logs_show_the_run() {
+    let mut counts = Counts {
+        waits: 0,
+        no_room: 0,
+        opened: 0,
+        plays: 0,
+    };
+    for seed in 0..400 {
+        let mix = Mix {
+            broken: 10,
+            ..Mix::true_records()
+        };
+        let history = History::made(seed, 40, 50, mix);
+        let (log, tail) = (&history.writer.log, history.writer.tail);
+        let (answer, record) = audit(log, tail, &mut vec![0; 100 * CELL]);
+        // A broken checkpoint may be a false one.
+        if !answer.is_done() {
+            continue;
+        }
+        assert_eq!(record.position, tail as u64);
+        let mut random = Random::new(seed + 77);
+        for _ in 0..6 {
+            play_at_random(&history, &mut random, &mut counts);
+        }
+    }
+    assert!(counts.opened > 1000 && counts.plays > 5000, "too few");
+    assert!(counts.waits > 100 && counts.no_room > 100, "too few");
+}
+
+#[test]
+fn histories_have_all_kinds_and_refusals() {
+    let mut numbers = [0; 15];
+    let mut kinds = [0; 5];
+    let mut audits = [0; 15];
+    for seed in 0..300 {
+        let mix = if seed % 3 == 0 {
+            Mix::crowded()
+        } else {
+            Mix::rough()
+        };
+        let history = History::made(seed, 40, 60, mix);
+        for (_, answer) in &history.appends {
+            numbers[answer.number() as usize] += 1;
+        }
+        let (log, tail) = (&history.writer.log, history.writer.tail);
+        for at in 0..tail {
+            kinds[slot_at(log, at).kind().map_or(0, |kind| kind as usize)] += 1;
+        }
+        let (answer, _) = audit(log, tail, &mut vec![0; 100 * CELL]);
+        audits[answer.number() as usize] += 1;
+    }
+    for number in [0, 3, 4, 5, 6, 7, 8, 9, 10, 13, 14] {
+        assert!(
+            numbers[number] > 0,
+            "no append answers {number}: {numbers:?}"
+        );
+    }
+    assert!(
+        kinds[0] == 0 && kinds[1..].iter().all(|&count| count > 100),
+        "{kinds:?}"
+    );
+    assert!(audits[0] > 20 && audits[11] > 20, "{audits:?}");
+}
+
+/// Every call on a log of any bytes, with numbers of any kind. Refused appends, openings and lists change nothing.
+fn call_everything(log: &[u8], random: &mut Random) {
+    let slots = (log.len() / SLOT) as u64;
+    let tail = if random.percent(70) {
+        random.below(slots + 1) as usize
+    } else {
+        edge(random) as usize
+    };
+    let (offset, other) = (edge(random), edge(random));
+    let (small, word) = (random.below(10) as u32, other as u32);
+    check(log, tail);
+    owed(log, tail);
+    for offset in [offset, random.below(slots + 2)] {
+        let whole = entry(log, tail, offset);
+        assert_eq!(whole.number(), stretch(log, tail, offset).number());
+        assert!(whole.is_done() || items(log, tail, offset).is_empty());
+        header(log, tail, offset, small);
+        header(log, tail, offset, word);
+        for object in [small, word] {
+            let (answer, reader) = next(log, tail, object, offset);
+            assert!(answer.is_done() || reader == offset);
+        }
+    }
+    let mut lent = [7; 3];
+    if !list(log, tail, small, &mut lent).is_done() {
+        assert_eq!(lent, [7; 3]);
+    }
+    let mut table = junk(random, 100);
+    let record = Record {
+        hosted: random.number() as u8,
+        position: if random.percent(50) {
+            offset
+        } else {
+            random.below(slots + 1)
+        },
+        count: if random.percent(50) {
+            other
+        } else {
+            random.below(4)
+        },
+    };
+    read_cell(&record, &table, small, word);
+    let requests = [
+        Request::Update {
+            number: word,
+            items: junk(random, 40),
+        },
+        Request::Commit {
+            number: small,
+            reads: junk(random, 40),
+        },
+        Request::Decision {
+            offset,
+            outcome: small,
+        },
+        Request::Checkpoint {
+            record,
+            table: table.clone(),
+            object: small,
+        },
+    ];
+    for request in &requests {
+        let mut after = log.to_vec();
+        if !append::request(&mut after, tail, request).is_done() {
+            assert_eq!(after, log);
+        }
+    }
+    let before = table.clone();
+    if !open_at(log, tail, offset, &mut table).is_done() {
+        assert_eq!(table, before);
+    }
+    let (answer, left) = play(log, tail, record, &mut table, random.below(slots + 1));
+    assert!(
+        left.hosted == record.hosted && (answer.is_done() || left.count <= record.count.max(4))
+    );
+    audit(log, tail, &mut table);
+}
+
+#[test]
+fn any_bytes_and_numbers_end_in_an_answer() {
+    let mut random = Random::new(5);
+    for seed in 0..3000 {
+        let mut log = match random.below(4) {
+            0 => junk(&mut random, 1000),
+            _ => {
+                let slots = random.below(9) as usize;
+                History::made(seed, slots, 12, Mix::rough()).writer.log
+            }
+        };
+        if random.percent(20) {
+            flip(&mut random, &mut log);
+        }
+        if random.percent(10) {
+            log.pop();
+        }
+        call_everything(&log, &mut random);
+    }
+    assert_eq!(set_of(u32::MAX), 0);
+}
