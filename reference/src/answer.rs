@@ -86,4 +86,15 @@ impl<T> Answer<T> {
             Answer::Refused { .. } => None,
         }
     }
+
+    /// What is done, or `refused N at K`, with K the offset told or "-".
+    pub fn shown(self, done: impl FnOnce(T) -> String) -> String {
+        match self {
+            Answer::Done(value) => done(value),
+            Answer::Refused { number, offset } => {
+                let place = offset.map_or("-".to_string(), |offset| offset.to_string());
+                format!("refused {number} at {place}")
+            }
+        }
+    }
 }

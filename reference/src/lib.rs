@@ -5,6 +5,7 @@
 
 pub mod answer;
 pub mod append;
+pub mod appending;
 pub mod audit;
 pub mod broken;
 pub mod bytes;

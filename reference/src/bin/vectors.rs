@@ -1,8 +1,12 @@
-//! Stored vectors for test programs: `vectors reading OUTDIR` writes OUTDIR/stdin and OUTDIR/stdout.
+//! Stored vectors for test programs: `vectors reading OUTDIR` and `vectors appending OUTDIR` write OUTDIR/stdin and
+//! OUTDIR/stdout.
 //!
-//! stdin is a sequence of cases to its end. A case is 4 bytes tail, 4 bytes length of the log in bytes (both most
-//! significant byte first), then the log's bytes. stdout is what a program prints for all cases, in order. Numbers
-//! are decimal, with single spaces and '\n' ends; T is the given tail, and K the offset told or "-".
+//! stdin is a sequence of cases to its end, its numbers stored most significant byte first. stdout is what a program
+//! prints for all cases, in order. Numbers are decimal, with single spaces and '\n' ends; K is the offset told or "-".
+//!
+//! # Reading
+//!
+//! A case is 4 bytes tail, 4 bytes length of the log in bytes, then the log's bytes. T is the given tail.
 //!
 //! - `check done` or `check refused N at K`.
 //! - `owed none`, `owed OFFSET` or `owed refused N at K`.
@@ -14,12 +18,29 @@
 //!   r` or `next x f refused N at K r`, with r the reader's next offset afterwards.
 //! - For each object x of 0, 1, .. 9, with a lent list of 5 numbers, then of 40, each filled with 77777: `list x LENGTH
 //!   COUNT` or `list x LENGTH refused N at K`, and then all numbers of the lent list after the call.
+//!
+//! # Appending
+//!
+//! A case is 4 bytes tail, 4 bytes length of the log in bytes, the log's bytes, 4 bytes number of requests, then the
+//! requests. Each is made on the log and tail that the last left; a refused one leaves them as they were. A request is
+//! 4 bytes kind, then its arguments:
+//!
+//! - 1 update: 4 bytes number, 4 bytes length of the items in bytes, the items' bytes.
+//! - 2 commit: the same, with the reads' bytes.
+//! - 3 decision: 8 bytes offset, 4 bytes outcome.
+//! - 4 checkpoint: 4 bytes hosted set, 8 bytes position, 8 bytes count, 4 bytes object, 4 bytes length of the table in
+//!   bytes, the table's bytes. There is no case of it yet.
+//!
+//! For each request: `update done T` with the new tail T, or `update refused N at K`; likewise `commit`, `decision`,
+//! `checkpoint`. At the end of a case: `log`, and after a space each all bytes of the log as 4-byte words; a last part
+//! of fewer than 4 bytes is left out.
 
 use std::fmt::Write;
 use std::path::Path;
 use std::process::ExitCode;
 
-use reference::cases::{reading, Case};
+use reference::appending::{appending, input, output};
+use reference::cases::reading;
 use reference::log::{check, entry, header, items, list, next, owed};
 use reference::Answer;
 
@@ -28,16 +49,20 @@ const FILLED: u32 = 77_777;
 fn main() -> ExitCode {
     let arguments: Vec<String> = std::env::args().skip(1).collect();
     let [what, directory] = arguments.as_slice() else {
-        eprintln!("usage: vectors reading OUTDIR");
+        eprintln!("usage: vectors reading|appending OUTDIR");
         return ExitCode::from(2);
     };
-    if what != "reading" {
-        eprintln!("unknown vectors: {what}");
-        return ExitCode::from(2);
-    }
-    match write_vectors(Path::new(directory), &reading()) {
-        Ok(summary) => {
-            println!("{summary}");
+    let vectors = match what.as_str() {
+        "reading" => of_reading(),
+        "appending" => of_appending(),
+        _ => {
+            eprintln!("unknown vectors: {what}");
+            return ExitCode::from(2);
+        }
+    };
+    match vectors.write(Path::new(directory)) {
+        Ok(()) => {
+            println!("{}", vectors.summary());
             ExitCode::SUCCESS
         }
         Err(error) => {
@@ -47,22 +72,49 @@ fn main() -> ExitCode {
     }
 }
 
-fn write_vectors(directory: &Path, cases: &[Case]) -> std::io::Result<String> {
+struct Vectors {
+    cases: usize,
+    input: Vec<u8>,
+    output: String,
+}
+
+impl Vectors {
+    fn write(&self, directory: &Path) -> std::io::Result<()> {
+        std::fs::create_dir_all(directory)?;
+        std::fs::write(directory.join("stdin"), &self.input)?;
+        std::fs::write(directory.join("stdout"), &self.output)
+    }
+
+    fn summary(&self) -> String {
+        let (cases, read, printed) = (self.cases, self.input.len(), self.output.len());
+        format!("{cases} cases, stdin {read} bytes, stdout {printed} bytes")
+    }
+}
+
+fn of_appending() -> Vectors {
+    let cases = appending();
+    Vectors {
+        cases: cases.len(),
+        input: input(&cases),
+        output: output(&cases),
+    }
+}
+
+fn of_reading() -> Vectors {
+    let cases = reading();
     let mut input = Vec::new();
     let mut output = String::new();
-    for case in cases {
+    for case in &cases {
         input.extend(case.tail.to_be_bytes());
         input.extend((case.log.len() as u32).to_be_bytes());
         input.extend(&case.log);
         print_case(&mut output, &case.log, case.tail as usize);
     }
-    std::fs::create_dir_all(directory)?;
-    std::fs::write(directory.join("stdin"), &input)?;
-    std::fs::write(directory.join("stdout"), &output)?;
-    let (cases, read, printed) = (cases.len(), input.len(), output.len());
-    Ok(format!(
-        "{cases} cases, stdin {read} bytes, stdout {printed} bytes"
-    ))
+    Vectors {
+        cases: cases.len(),
+        input,
+        output,
+    }
 }
 
 fn print_case(text: &mut String, log: &[u8], tail: usize) {
@@ -97,18 +149,8 @@ fn distinct(numbers: impl Iterator<Item = u64>) -> Vec<u64> {
     seen
 }
 
-fn shown<T>(answer: Answer<T>, done: impl FnOnce(T) -> String) -> String {
-    match answer {
-        Answer::Done(value) => done(value),
-        Answer::Refused { number, offset } => {
-            let place = offset.map_or("-".to_string(), |offset| offset.to_string());
-            format!("refused {number} at {place}")
-        }
-    }
-}
-
 fn line<T>(text: &mut String, name: &str, answer: Answer<T>, done: impl FnOnce(T) -> String) {
-    let _ = writeln!(text, "{name} {}", shown(answer, done));
+    let _ = writeln!(text, "{name} {}", answer.shown(done));
 }
 
 fn print_entry(text: &mut String, log: &[u8], tail: usize, offset: u64) {
@@ -139,16 +181,14 @@ fn print_entry(text: &mut String, log: &[u8], tail: usize, offset: u64) {
 
 fn print_next(text: &mut String, log: &[u8], tail: usize, object: u32, from: u64) {
     let (answer, reader) = next(log, tail, object, from);
-    let shown = shown(answer, |next| {
-        next.map_or("end".to_string(), |offset| offset.to_string())
-    });
+    let shown = answer.shown(|next| next.map_or("end".to_string(), |offset| offset.to_string()));
     let _ = writeln!(text, "next {object} {from} {shown} {reader}");
 }
 
 fn print_list(text: &mut String, log: &[u8], tail: usize, object: u32, length: usize) {
     let mut lent = vec![FILLED; length];
     let answer = list(log, tail, object, &mut lent);
-    let shown = shown(answer, |count| count.to_string());
+    let shown = answer.shown(|count| count.to_string());
     let _ = write!(text, "list {object} {length} {shown}");
     for number in lent {
         let _ = write!(text, " {number}");
