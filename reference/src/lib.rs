@@ -13,6 +13,7 @@ pub mod cases;
 pub mod earlier;
 pub mod log;
 pub mod objects;
+pub mod playing;
 pub mod random;
 pub mod replica;
 pub mod report;

@@ -1,5 +1,5 @@
-//! Stored vectors for test programs: `vectors reading OUTDIR` and `vectors appending OUTDIR` write OUTDIR/stdin and
-//! OUTDIR/stdout.
+//! Stored vectors for test programs: `vectors reading OUTDIR`, `vectors appending OUTDIR` and `vectors playing OUTDIR`
+//! write OUTDIR/stdin and OUTDIR/stdout.
 //!
 //! stdin is a sequence of cases to its end, its numbers stored most significant byte first. stdout is what a program
 //! prints for all cases, in order. Numbers are decimal, with single spaces and '\n' ends; K is the offset told or "-".
@@ -34,14 +34,31 @@
 //! For each request: `update done T` with the new tail T, or `update refused N at K`; likewise `commit`, `decision`,
 //! `checkpoint`. At the end of a case: `log`, and after a space each all bytes of the log as 4-byte words; a last part
 //! of fewer than 4 bytes is left out.
+//!
+//! # Playing
+//!
+//! A case is 4 bytes length of the log in bytes, the log's bytes, 4 bytes length of the table in bytes, the table's
+//! bytes, the record to start with (4 bytes hosted set, 8 bytes position, 8 bytes count), 4 bytes number of requests,
+//! then the requests. Each is made on the table and record that the last left. A request is 4 bytes kind, then its
+//! arguments:
+//!
+//! - 1 open fresh: 4 bytes hosted set. `open done H P C`, with hosted set, position and count of the record, or `open
+//!   refused N at K`; refused, the record stays.
+//! - 2 play: 4 bytes tail, 8 bytes stop. `play done H P C` or `play refused N at K H P C`, with the record as left.
+//! - 3 read cell: 4 bytes object, 4 bytes key. `cell X KEY never`, `cell X KEY value V VERSION`, `cell X KEY removed
+//!   VERSION` or `cell X KEY refused N at K`.
+//!
+//! At the end of a case: `table`, and after a space each all bytes of the table as 4-byte words; a last part of fewer
+//! than 4 bytes is left out.
 
 use std::fmt::Write;
 use std::path::Path;
 use std::process::ExitCode;
 
-use reference::appending::{appending, input, output};
+use reference::appending::{self, appending};
 use reference::cases::reading;
 use reference::log::{check, entry, header, items, list, next, owed};
+use reference::playing::{self, playing};
 use reference::Answer;
 
 const FILLED: u32 = 77_777;
@@ -49,12 +66,13 @@ const FILLED: u32 = 77_777;
 fn main() -> ExitCode {
     let arguments: Vec<String> = std::env::args().skip(1).collect();
     let [what, directory] = arguments.as_slice() else {
-        eprintln!("usage: vectors reading|appending OUTDIR");
+        eprintln!("usage: vectors reading|appending|playing OUTDIR");
         return ExitCode::from(2);
     };
     let vectors = match what.as_str() {
         "reading" => of_reading(),
         "appending" => of_appending(),
+        "playing" => of_playing(),
         _ => {
             eprintln!("unknown vectors: {what}");
             return ExitCode::from(2);
@@ -95,8 +113,17 @@ fn of_appending() -> Vectors {
     let cases = appending();
     Vectors {
         cases: cases.len(),
-        input: input(&cases),
-        output: output(&cases),
+        input: appending::input(&cases),
+        output: appending::output(&cases),
+    }
+}
+
+fn of_playing() -> Vectors {
+    let cases = playing();
+    Vectors {
+        cases: cases.len(),
+        input: playing::input(&cases),
+        output: playing::output(&cases),
     }
 }
 

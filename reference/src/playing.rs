@@ -1,0 +1,319 @@
+//! Stored vectors of opening fresh, play and cell reading: a log, a table and a record, the requests made on them one
+//! after the other, and what must come of each. The format stands at the head of `src/bin/vectors.rs`.
+
+pub mod histories;
+pub mod outcomes;
+pub mod refusals;
+pub mod rooms;
+pub mod tables;
+pub mod worked;
+
+use std::fmt::Write;
+
+use crate::answer::Answer;
+use crate::replica::{open_fresh, play, read_cell, Record};
+use crate::table::{put_row, Cell, Row};
+
+/// One request.
+#[derive(Clone, Copy, Debug, PartialEq, Eq)]
+pub enum Request {
+    Open { hosted: u8 },
+    Play { tail: u32, stop: u64 },
+    Cell { object: u32, key: u32 },
+}
+
+/// What a request answers.
+#[derive(Clone, Copy, Debug, PartialEq, Eq)]
+pub enum Said {
+    Opened(Answer<Record>),
+    /// The record is as it was left.
+    Played(Answer<()>, Record),
+    Read(Answer<Cell>),
+}
+
+/// What comes of a case.
+#[derive(Clone, Debug, PartialEq, Eq)]
+pub struct Outcome {
+    pub said: Vec<Said>,
+    pub table: Vec<u8>,
+}
+
+/// A lent log and table, and requests that are each made on the table and record that the last left.
+pub struct Case {
+    pub name: String,
+    pub log: Vec<u8>,
+    pub table: Vec<u8>,
+    pub record: Record,
+    pub requests: Vec<Request>,
+    /// What it was made for; a random history has none.
+    pub expected: Option<Outcome>,
+}
+
+impl Case {
+    pub fn outcome(&self) -> Outcome {
+        let mut table = self.table.clone();
+        let mut record = self.record;
+        let mut said = Vec::new();
+        for &request in &self.requests {
+            said.push(match request {
+                Request::Open { hosted } => {
+                    let answer = open_fresh(hosted);
+                    record = answer.done().unwrap_or(record);
+                    Said::Opened(answer)
+                }
+                Request::Play { tail, stop } => {
+                    let (answer, left) = play(&self.log, tail as usize, record, &mut table, stop);
+                    record = left;
+                    Said::Played(answer, left)
+                }
+                Request::Cell { object, key } => {
+                    Said::Read(read_cell(&record, &table, object, key))
+                }
+            });
+        }
+        Outcome { said, table }
+    }
+}
+
+/// All cases of playing.
+pub fn playing() -> Vec<Case> {
+    let mut cases = named();
+    cases.extend(histories::cases());
+    cases
+}
+
+/// Those with stated answers.
+pub fn named() -> Vec<Case> {
+    let mut cases = worked::cases();
+    cases.extend(outcomes::cases());
+    cases.extend(rooms::cases());
+    cases.extend(tables::cases());
+    cases.extend(refusals::cases());
+    cases
+}
+
+/// A case in the making: a request is added with the answer that it must get. The table must be left as it was given,
+/// but for the rows that are stated.
+pub struct Asking {
+    case: Case,
+    record: Record,
+    said: Vec<Said>,
+    left: Vec<u8>,
+}
+
+impl Asking {
+    /// Starts with the record 0, 0, 0.
+    pub fn on(name: &str, log: Vec<u8>, table: Vec<u8>) -> Asking {
+        Asking::with(name, log, table, record(0, 0, 0))
+    }
+
+    pub fn with(name: &str, log: Vec<u8>, table: Vec<u8>, record: Record) -> Asking {
+        Asking {
+            left: table.clone(),
+            record,
+            said: Vec::new(),
+            case: Case {
+                name: name.to_string(),
+                log,
+                table,
+                record,
+                requests: Vec::new(),
+                expected: None,
+            },
+        }
+    }
+
+    fn ask(&mut self, request: Request, said: Said) {
+        self.case.requests.push(request);
+        self.said.push(said);
+    }
+
+    /// Opens fresh; hosted set 0 is refused.
+    pub fn opens(&mut self, hosted: u8) {
+        let answer = if hosted == 0 {
+            refused(10)
+        } else {
+            self.record = record(hosted, 0, 0);
+            Answer::Done(self.record)
+        };
+        self.ask(Request::Open { hosted }, Said::Opened(answer));
+    }
+
+    /// A play that is done, with so many cells counted.
+    pub fn plays(&mut self, tail: u32, stop: u64, count: u64) {
+        self.record = Record {
+            position: stop,
+            count,
+            ..self.record
+        };
+        self.play(tail, stop, Answer::Done(()));
+    }
+
+    /// A play that stops at an entry: 12 or 13.
+    pub fn stops(&mut self, tail: u32, stop: u64, number: u32, position: u64, count: u64) {
+        self.record = Record {
+            position,
+            count,
+            ..self.record
+        };
+        self.play(tail, stop, refused(number));
+    }
+
+    /// A play that is refused, with the record as it was.
+    pub fn refuses(&mut self, tail: u32, stop: u64, number: u32) {
+        self.play(tail, stop, refused(number));
+    }
+
+    /// Refusal 2 with its offset.
+    pub fn bad_entry(&mut self, tail: u32, stop: u64, at: u64) {
+        let refusal = Answer::Refused {
+            number: crate::answer::BAD_ENTRY,
+            offset: Some(at),
+        };
+        self.play(tail, stop, refusal);
+    }
+
+    fn play(&mut self, tail: u32, stop: u64, answer: Answer<()>) {
+        let said = Said::Played(answer, self.record);
+        self.ask(Request::Play { tail, stop }, said);
+    }
+
+    pub fn holds(&mut self, object: u32, key: u32, value: u32, version: u64) {
+        self.reads(object, key, Answer::Done(Cell::Holds { value, version }));
+    }
+
+    pub fn removed(&mut self, object: u32, key: u32, version: u64) {
+        self.reads(object, key, Answer::Done(Cell::Removed { version }));
+    }
+
+    pub fn never(&mut self, object: u32, key: u32) {
+        self.reads(object, key, Answer::Done(Cell::NeverWritten));
+    }
+
+    /// A cell reading that is refused.
+    pub fn no_cell(&mut self, object: u32, key: u32, number: u32) {
+        self.reads(object, key, refused(number));
+    }
+
+    fn reads(&mut self, object: u32, key: u32, answer: Answer<Cell>) {
+        self.ask(Request::Cell { object, key }, Said::Read(answer));
+    }
+
+    /// The row that the table has at a place when all requests have been made.
+    pub fn row(&mut self, place: usize, object: u32, key: u32, value: Option<u32>, version: u64) {
+        put_row(&mut self.left, place, Row::of(object, key, value, version));
+    }
+
+    pub fn case(self) -> Case {
+        Case {
+            expected: Some(Outcome {
+                said: self.said,
+                table: self.left,
+            }),
+            ..self.case
+        }
+    }
+}
+
+pub fn record(hosted: u8, position: u64, count: u64) -> Record {
+    Record {
+        hosted,
+        position,
+        count,
+    }
+}
+
+fn refused<T>(number: u32) -> Answer<T> {
+    let offset = None;
+    Answer::Refused { number, offset }
+}
+
+/// The bytes of stdin for these cases.
+pub fn input(cases: &[Case]) -> Vec<u8> {
+    let mut bytes = Vec::new();
+    for case in cases {
+        bytes.extend((case.log.len() as u32).to_be_bytes());
+        bytes.extend(&case.log);
+        bytes.extend((case.table.len() as u32).to_be_bytes());
+        bytes.extend(&case.table);
+        bytes.extend(u32::from(case.record.hosted).to_be_bytes());
+        bytes.extend(case.record.position.to_be_bytes());
+        bytes.extend(case.record.count.to_be_bytes());
+        bytes.extend((case.requests.len() as u32).to_be_bytes());
+        for request in &case.requests {
+            bytes.extend(request_bytes(request));
+        }
+    }
+    bytes
+}
+
+/// A request's kind and arguments.
+pub fn request_bytes(request: &Request) -> Vec<u8> {
+    let mut bytes = Vec::new();
+    match request {
+        Request::Open { hosted } => {
+            bytes.extend(1_u32.to_be_bytes());
+            bytes.extend(u32::from(*hosted).to_be_bytes());
+        }
+        Request::Play { tail, stop } => {
+            bytes.extend(2_u32.to_be_bytes());
+            bytes.extend(tail.to_be_bytes());
+            bytes.extend(stop.to_be_bytes());
+        }
+        Request::Cell { object, key } => {
+            bytes.extend(3_u32.to_be_bytes());
+            bytes.extend(object.to_be_bytes());
+            bytes.extend(key.to_be_bytes());
+        }
+    }
+    bytes
+}
+
+/// What a program prints for these cases.
+pub fn output(cases: &[Case]) -> String {
+    let mut text = String::new();
+    for case in cases {
+        print_case(&mut text, case);
+    }
+    text
+}
+
+fn print_case(text: &mut String, case: &Case) {
+    let Outcome { said, table } = case.outcome();
+    for (request, said) in case.requests.iter().zip(said) {
+        let _ = match said {
+            Said::Opened(answer) => {
+                let shown = answer.shown(|record| format!("done {}", record_shown(record)));
+                writeln!(text, "open {shown}")
+            }
+            Said::Played(answer, left) => {
+                let shown = answer.shown(|()| "done".to_string());
+                writeln!(text, "play {shown} {}", record_shown(left))
+            }
+            Said::Read(answer) => {
+                let Request::Cell { object, key } = request else {
+                    unreachable!("only a cell reading is answered so");
+                };
+                writeln!(text, "cell {object} {key} {}", answer.shown(cell_shown))
+            }
+        };
+    }
+    text.push_str("table");
+    for word in table.chunks_exact(4) {
+        let word = u32::from_be_bytes([word[0], word[1], word[2], word[3]]);
+        let _ = write!(text, " {word}");
+    }
+    text.push('\n');
+}
+
+fn record_shown(record: Record) -> String {
+    format!("{} {} {}", record.hosted, record.position, record.count)
+}
+
+fn cell_shown(cell: Cell) -> String {
+    match cell {
+        Cell::NeverWritten => "never".to_string(),
+        Cell::Holds { value, version } => format!("value {value} {version}"),
+        Cell::Removed { version } => format!("removed {version}"),
+    }
+}
