@@ -1,6 +1,15 @@
-//! The stored vectors of playing: each named case gets the answers and leaves the table that it was made for.
+//! The stored vectors of playing: each named case gets the answers and leaves the table that it was made for, all are as
+//! a plain player says, and the stored bytes are as the format says.
 
-use reference::playing::named;
+use std::collections::BTreeMap;
+
+use reference::log::check;
+use reference::objects::has;
+use reference::playing::{histories, input, named, output, playing, record, Case, Request, Said};
+use reference::replica::Record;
+use reference::slot::{slot_at, Kind, Write, COMMIT, PUT};
+use reference::table::{capacity, row, Row, CELL};
+use reference::Answer::{Done, Refused};
 
 #[test]
 fn named_cases_answer_as_made_for() {
@@ -13,4 +22,246 @@ fn named_cases_answer_as_made_for() {
         }
         assert_eq!(&outcome, expected, "{}", case.name);
     }
+}
+
+fn case(name: &str) -> Case {
+    let found = named().into_iter().find(|case| case.name == name);
+    found.unwrap_or_else(|| panic!("no case {name}"))
+}
+
+#[test]
+fn printed_as_the_format_says() {
+    let text = output(&[case("a commit with its decision above, outcome 1")]);
+    let lines: Vec<&str> = text.lines().collect();
+    assert_eq!(
+        lines[..7],
+        [
+            "open done 16 0 0",
+            "play refused 12 at - 16 2 0",
+            "cell 5 1 never",
+            "play done 16 3 1",
+            "cell 5 1 value 9 3",
+            "play done 16 5 2",
+            "cell 5 2 value 8 5",
+        ]
+    );
+    assert_eq!(lines[7..], ["table 5 1 9 1 0 3 5 2 8 1 0 5"]);
+    assert!(text.ends_with("5\n"));
+    let text = output(&[case("opening fresh")]);
+    assert!(text.starts_with("open refused 10 at -\ncell 2 7 refused 10 at -\n"));
+    let text = output(&[case("a bad entry")]);
+    assert!(text.contains("play refused 2 at 2 2 0 0\n"));
+    assert!(output(&[case("put and remove")]).contains("cell 2 7 removed 2\n"));
+    // 23 bytes: 5 words, and 3 bytes that are left out.
+    let text = output(&[case("bench log, a table of 23 bytes")]);
+    assert_eq!(text.lines().last().unwrap().split(' ').count(), 6);
+    let text = output(&[case("no slots")]);
+    assert_eq!(text.lines().last(), Some("table"));
+}
+
+#[test]
+fn instalments_leave_what_one_play_leaves() {
+    let (parts, whole) = (case("instalments"), case("instalments: one play"));
+    assert_eq!((&parts.log, &parts.table), (&whole.log, &whole.table));
+    let (parts, whole) = (parts.outcome(), whole.outcome());
+    assert_eq!(parts.table, whole.table);
+    assert_eq!(parts.said.last(), whole.said.last());
+}
+
+/// Takes numbers and bytes off stdin.
+struct Taker<'a>(&'a [u8]);
+
+impl<'a> Taker<'a> {
+    fn bytes(&mut self, length: usize) -> &'a [u8] {
+        let (taken, rest) = self.0.split_at(length);
+        self.0 = rest;
+        taken
+    }
+
+    fn number(&mut self, length: usize) -> u64 {
+        let bytes = self.bytes(length).iter();
+        bytes.fold(0, |number, byte| number << 8 | u64::from(*byte))
+    }
+
+    fn counted(&mut self) -> Vec<u8> {
+        let length = self.number(4) as usize;
+        self.bytes(length).to_vec()
+    }
+
+    fn request(&mut self) -> Request {
+        match self.number(4) {
+            1 => Request::Open {
+                hosted: u8::try_from(self.number(4)).unwrap(),
+            },
+            2 => Request::Play {
+                tail: self.number(4) as u32,
+                stop: self.number(8),
+            },
+            3 => Request::Cell {
+                object: self.number(4) as u32,
+                key: self.number(4) as u32,
+            },
+            kind => panic!("kind {kind}"),
+        }
+    }
+}
+
+#[test]
+fn stdin_reads_back_within_its_bounds() {
+    let cases = playing();
+    let (bytes, text) = (input(&cases), output(&cases));
+    assert!(bytes.len() < 240_000 && text.len() < 1_000_000);
+    let mut taker = Taker(&bytes);
+    for case in &cases {
+        assert_eq!(taker.counted(), case.log);
+        assert_eq!(taker.counted(), case.table);
+        assert!(case.log.len() <= 4096 && case.table.len() <= 2400);
+        let hosted = u8::try_from(taker.number(4)).unwrap();
+        let given = record(hosted, taker.number(8), taker.number(8));
+        assert_eq!(given, case.record);
+        let requests: Vec<Request> = (0..taker.number(4)).map(|_| taker.request()).collect();
+        assert_eq!(requests, case.requests);
+    }
+    assert!(taker.0.is_empty());
+    assert!(cases.iter().any(|case| case.log.len() == 4096));
+    assert!(cases.iter().any(|case| case.table.len() == 2400));
+}
+
+/// A plain player: searches the rows for each cell, and works on a copy of them for each entry.
+fn plainly(case: &Case, tail: usize, given: Record, table: &mut [u8], stop: u64) -> (u32, Record) {
+    let mut left = given;
+    if let Refused { number, .. } = check(&case.log, tail) {
+        return (number, left);
+    }
+    let room = capacity(table);
+    if given.hosted == 0 || given.count > room as u64 || given.position > tail as u64 {
+        return (10, left);
+    }
+    if stop < given.position || stop > tail as u64 {
+        return (3, left);
+    }
+    let mut rows: Vec<Row> = (0..given.count as usize).map(|at| row(table, at)).collect();
+    let mut number = 0;
+    for at in given.position as usize..stop as usize {
+        let Some(writes) = due(case, tail, given.hosted, at, &rows) else {
+            number = 12;
+            break;
+        };
+        let mut after = rows.clone();
+        for write in writes
+            .iter()
+            .filter(|write| has(given.hosted, write.object))
+        {
+            let value = (write.operation == PUT).then_some(write.value);
+            let made = Row::of(write.object, write.key, value, at as u64 + 1);
+            match place(&after, write.object, write.key) {
+                Some(place) => after[place] = made,
+                None => after.push(made),
+            }
+        }
+        if after.len() > room && after.len() > rows.len() {
+            number = 13;
+            break;
+        }
+        rows = after;
+        left.position += 1;
+    }
+    for (at, row) in rows.iter().enumerate() {
+        table[at * CELL..at * CELL + CELL].copy_from_slice(&row.bytes());
+    }
+    left.count = rows.len() as u64;
+    (number, left)
+}
+
+fn place(rows: &[Row], object: u32, key: u32) -> Option<usize> {
+    rows.iter()
+        .position(|row| (row.object, row.key) == (object, key))
+}
+
+/// The writes that are due at an entry; none where it waits.
+fn due(case: &Case, tail: usize, hosted: u8, at: usize, rows: &[Row]) -> Option<Vec<Write>> {
+    let slot = slot_at(&case.log, at);
+    let number = slot.number();
+    if slot.kind() == Some(Kind::Update) && number == 0 {
+        return Some(slot.writes().collect());
+    }
+    if slot.kind() != Some(Kind::Commit) || !slot.headers().any(|h| has(hosted, h.object)) {
+        return Some(Vec::new());
+    }
+    let commits = if slot.reads().all(|read| has(hosted, read.object)) {
+        slot.reads().all(|read| {
+            let version = place(rows, read.object, read.key).map_or(0, |at| rows[at].version);
+            version == read.version
+        })
+    } else {
+        let decided = (0..tail)
+            .map(|at| slot_at(&case.log, at))
+            .filter(|slot| slot.kind() == Some(Kind::Decision))
+            .find(|slot| slot.verdict().commit == at as u64)?;
+        decided.verdict().outcome == COMMIT
+    };
+    let updates = (0..at)
+        .map(|at| slot_at(&case.log, at))
+        .filter(|slot| slot.kind() == Some(Kind::Update) && slot.number() == number);
+    Some(if commits {
+        updates.flat_map(|slot| slot.writes()).collect()
+    } else {
+        Vec::new()
+    })
+}
+
+#[test]
+fn all_cases_are_as_a_plain_player_says() {
+    for case in playing() {
+        let outcome = case.outcome();
+        let (mut table, mut at) = (case.table.clone(), case.record);
+        for (request, said) in case.requests.iter().zip(&outcome.said) {
+            match (*request, *said) {
+                (Request::Open { hosted }, Said::Opened(answer)) => {
+                    assert_eq!(answer.is_done(), hosted != 0);
+                    at = answer.done().unwrap_or(at);
+                    assert!(!answer.is_done() || at == record(hosted, 0, 0));
+                }
+                (Request::Play { tail, stop }, Said::Played(answer, left)) => {
+                    let (number, plain) = plainly(&case, tail as usize, at, &mut table, stop);
+                    assert_eq!((answer.number(), left), (number, plain), "{}", case.name);
+                    at = left;
+                }
+                (Request::Cell { object, key }, Said::Read(answer)) => {
+                    if let Done(cell) = answer {
+                        let mut rows = (0..at.count as usize).map(|at| row(&table, at));
+                        let found = rows.find(|row| (row.object, row.key) == (object, key));
+                        assert_eq!(cell.version(), found.map_or(0, |row| row.version));
+                    }
+                }
+                _ => panic!("{request:?} is answered {said:?}"),
+            }
+        }
+        assert_eq!(outcome.table, table, "{}", case.name);
+    }
+}
+
+/// The random histories meet enough of everything.
+#[test]
+fn the_histories_are_rich() {
+    let cases = histories::cases();
+    assert_eq!(cases.len(), 40);
+    let mut numbers = BTreeMap::new();
+    let mut kinds = BTreeMap::new();
+    for case in &cases {
+        for said in case.outcome().said {
+            if let Said::Played(answer, _) = said {
+                *numbers.entry(answer.number()).or_insert(0) += 1;
+            }
+        }
+        let entries = (0..case.log.len() / 256).filter_map(|at| slot_at(&case.log, at).kind());
+        let entries: Vec<Kind> = entries.collect();
+        assert!((8..=16).contains(&entries.len()));
+        assert_eq!(check(&case.log, entries.len()), Done(()));
+        for kind in entries {
+            *kinds.entry(kind as u32).or_insert(0) += 1;
+        }
+    }
+    assert!(numbers[&0] > 100 && numbers[&12] > 10 && numbers[&13] > 20);
+    assert!((1..=4).all(|kind| kinds[&kind] > 30), "{kinds:?}");
 }

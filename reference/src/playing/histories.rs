@@ -1,8 +1,9 @@
 //! Random histories from a fixed seed: a good log, a random hosted set and table, plays at older and newer tails, and
 //! cells read after each.
 
+use crate::append;
 use crate::appending::junk;
-use crate::objects::{ids, object};
+use crate::objects::{ids, object, set_of};
 use crate::random::{History, Mix, Random};
 use crate::replica::{play, Record};
 use crate::slot::SLOT;
@@ -22,9 +23,9 @@ fn history(seed: u64) -> Case {
     if tail < 16 && random.percent(20) {
         log.extend(junk(SLOT));
     }
-    let hosted = hosted(&mut random);
+    let hosted = hosted(&mut random, grown.mix.objects);
     let table = junk(table_length(&mut random));
-    let requests = requests(&mut random, &log, tail, hosted, &table);
+    let requests = requests(&mut random, &log, tail, (hosted, grown.mix.objects), &table);
     Case {
         name: format!("random history {seed}"),
         log,
@@ -51,17 +52,24 @@ fn grown(seed: u64) -> History {
     let (some, others) = (history.random.below(9), history.random.below(9));
     let entries = 8 + some.min(others) as usize;
     while history.writer.tail < entries {
-        history.step();
+        // Fewer updates, so that there are more commit records.
+        let mut request = history.request();
+        if matches!(request, append::Request::Update { .. }) && history.random.percent(45) {
+            request = history.request();
+        }
+        history.append(request);
     }
     history
 }
 
-/// Mostly some of the objects.
-fn hosted(random: &mut Random) -> u8 {
+/// Mostly some of the objects in use.
+fn hosted(random: &mut Random, used: u8) -> u8 {
+    let used: Vec<u32> = ids(used).collect();
+    let one = set_of(random.pick(&used).unwrap_or(1));
     match random.below(4) {
         0 => 255,
-        1 => 1 << random.below(8),
-        _ => (random.number() as u8).max(1),
+        1 => one,
+        _ => one | random.number() as u8,
     }
 }
 
@@ -81,7 +89,7 @@ fn requests(
     random: &mut Random,
     log: &[u8],
     tail: usize,
-    hosted: u8,
+    (hosted, used): (u8, u8),
     table: &[u8],
 ) -> Vec<Request> {
     let mut table = table.to_vec();
@@ -92,9 +100,9 @@ fn requests(
         let (shown, stop) = next_play(random, tail as u64, at, turn + 1 == plays);
         requests.push(Request::Play { tail: shown, stop });
         at = play(log, shown as usize, at, &mut table, stop).1;
-        requests.extend(cells(random, at.hosted));
+        requests.extend(cells(random, at.hosted & used));
         if random.percent(6) {
-            let hosted = self::hosted(random);
+            let hosted = self::hosted(random, used);
             requests.push(Request::Open { hosted });
             at = record(hosted, 0, 0);
         }
@@ -119,15 +127,15 @@ fn next_play(random: &mut Random, tail: u64, at: Record, last: bool) -> (u32, u6
     (shown as u32, stop)
 }
 
-/// Some cells in use, mostly hosted ones.
-fn cells(random: &mut Random, hosted: u8) -> Vec<Request> {
-    let hosted: Vec<u32> = ids(hosted).collect();
+/// Some cells in use, mostly of these objects.
+fn cells(random: &mut Random, objects: u8) -> Vec<Request> {
+    let objects: Vec<u32> = ids(objects).collect();
     (0..3 + random.below(4))
         .map(|_| {
             let id = if random.percent(10) {
                 random.below(10) as u32
             } else {
-                random.pick(&hosted).unwrap_or(1)
+                random.pick(&objects).unwrap_or(1)
             };
             let highest = object(id).map_or(2, |object| object.highest_key.min(2));
             let key = random.below(u64::from(highest) + 1) as u32;

@@ -24,7 +24,8 @@ pub fn cases() -> Vec<Case> {
 
 fn bench_of(hosted: u8) -> Case {
     let name = format!("bench log, hosted set {hosted}");
-    let mut asking = Asking::on(&name, log_of(&bench()), junk(60));
+    let length = if hosted == 255 { 2400 } else { 60 };
+    let mut asking = Asking::on(&name, log_of(&bench()), junk(length));
     asking.opens(hosted);
     if hosted == 16 {
         asking.plays(5, 5, 0);
