@@ -1,0 +1,115 @@
+// One call on a replica, and its answer printed.
+use codec::names::ObjectId;
+use entries::calls::Checked;
+use replica::cells::Reading;
+use replica::playing::Left;
+use replica::record::Opened;
+use replica::record::Record;
+use table::rows::Content;
+use table::rows::Held;
+
+// The place after a request, and the record that it left.
+pub struct Stand {
+    pub at: usize,
+    pub record: Record,
+}
+
+// The three numbers of a record.
+fn record(r: Record) {
+    crate::print::next(crate::print::byte(r.hosted));
+    crate::print::next(r.position);
+    crate::print::next(r.count);
+}
+
+fn open(r: Record, hosted: u8) -> Record {
+    io::write_all(1, b"open");
+    let o = replica::record::open_fresh(hosted);
+    match o {
+        Opened::Replica(x) => {
+            io::write_all(1, b" done");
+            record(x);
+            crate::print::line_end();
+            x
+        }
+        Opened::Refused(x) => {
+            crate::print::refusal(x);
+            crate::print::line_end();
+            r
+        }
+    }
+}
+
+fn play(log: &[u8], tail: usize, r: Record, table: &mut [u8], stop: u64) -> Record {
+    io::write_all(1, b"play");
+    let l = replica::playing::play(log, tail, r, table, stop);
+    let a = l.answer;
+    let left = l.record;
+    match a {
+        Checked::Done => {
+            io::write_all(1, b" done");
+        }
+        Checked::Refused(x) => crate::print::refusal(x),
+    }
+    record(left);
+    crate::print::line_end();
+    left
+}
+
+fn content(c: Content) {
+    let v = c.version;
+    if c.removed {
+        io::write_all(1, b" removed");
+        crate::print::next(v.0);
+        return;
+    }
+    io::write_all(1, b" value");
+    crate::print::next(crate::print::wide(c.value));
+    crate::print::next(v.0);
+}
+
+fn cell(r: Record, table: &[u8], id: u32, key: u32) {
+    io::write_all(1, b"cell");
+    crate::print::next(crate::print::wide(id));
+    crate::print::next(crate::print::wide(key));
+    let c = replica::cells::read_cell(r, table, ObjectId(id), key);
+    match c {
+        Reading::Cell(h) => held(h),
+        Reading::Refused(x) => crate::print::refusal(x),
+    }
+    crate::print::line_end();
+}
+
+fn held(h: Held) {
+    match h {
+        Held::Never => {
+            io::write_all(1, b" never");
+        }
+        Held::Written(c) => content(c),
+    }
+}
+
+// The request at a place of the input.
+pub fn request(input: &[u8], at: usize, log: &[u8], table: &mut [u8], r: Record) -> Stand {
+    let kind = crate::input::word(input, at);
+    let first = crate::input::after(input, at, 4);
+    let a = crate::input::word(input, first);
+    let second = crate::input::after(input, first, 4);
+    if kind == 1 {
+        return Stand {
+            at: second,
+            record: open(r, crate::print::low(a)),
+        };
+    }
+    if kind == 2 {
+        let stop = crate::input::long(input, second);
+        return Stand {
+            at: crate::input::after(input, second, 8),
+            record: play(log, a as usize, r, table, stop),
+        };
+    }
+    cell(r, table, a, crate::input::word(input, second));
+    Stand {
+        at: crate::input::after(input, second, 4),
+        record: r,
+    }
+}
