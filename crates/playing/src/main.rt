@@ -4,7 +4,7 @@ mod input;
 mod print;
 mod requests;
 
-use replica::record::Record;
+use records::Record;
 
 // The requests from a place on, one after the other; answers the place after them.
 fn all_requests(

@@ -1,10 +1,10 @@
 // One call on a replica, and its answer printed.
 use codec::names::ObjectId;
 use entries::calls::Checked;
+use records::Record;
 use replica::cells::Reading;
+use replica::opening::Opened;
 use replica::playing::Left;
-use replica::record::Opened;
-use replica::record::Record;
 use table::rows::Content;
 use table::rows::Held;
 
@@ -23,7 +23,7 @@ fn record(r: Record) {
 
 fn open(r: Record, hosted: u8) -> Record {
     io::write_all(1, b"open");
-    let o = replica::record::open_fresh(hosted);
+    let o = replica::opening::open_fresh(hosted);
     match o {
         Opened::Replica(x) => {
             io::write_all(1, b" done");
