@@ -1,0 +1,4 @@
+pub mod Histories
+pub mod Behave
+pub mod ReadBack
+pub mod KeepGood
