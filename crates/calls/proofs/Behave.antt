@@ -46,42 +46,42 @@ module _ (a : Appends) where
   )
 
   abbrev playOf : (k : Kept) → PlayCall a k → Play
-  playOf k p = record { stoodAfter = p .stoodAfter; stop = p .stop }
+  playOf k p = record { stoodAfter = p .stoodAfter; stop = p .on .stop }
 
   abbrev leftOf : (k : Kept) → PlayCall a k → model.Left
-  leftOf k p = record { answer = checkedIn (p .answer); replica = replicaIn (p .kept .replica); table = p .kept .table }
+  leftOf k p = record { answer = checkedIn (p .on .answer); replica = replicaIn (p .on .kept .replica); table = p .on .kept .table }
 
   played-so : (k : Kept) (p : PlayCall a k) → played depots h (carry k) (playOf k p) ≡ leftOf k p
   played-so k p =
-      ap (λ (l : Lent). model.playCall depots (inLog l) (replicaIn (k .replica)) (k .table) (p .stop)) (stood-left a (p .stoodAfter)) ∙ sym (p .promise)
+      ap (λ (l : Lent). model.playCall depots (inLog l) (replicaIn (k .replica)) (k .table) (p .on .stop)) (stood-left a (p .stoodAfter)) ∙ sym (p .on .promise)
 
   plays-so : (k last : Kept) → Plays a k last → (ps : List Play) × (plays depots h (carry k) ps ≡ carry last)
   unfolding plays
   plays-so k last (none x) = ([], refl)
   plays-so k last (more x y p rest) =
-      let ih = plays-so (p .kept) last rest in
+      let ih = plays-so (p .on .kept) last rest in
       (playOf k p ∷ ih .0, ap (λ (l : model.Left). plays depots h (carried l) (ih .0)) (played-so k p) ∙ ih .1)
 
   -- the model's premises, from those of the values
   fit-so : (k : Kept) (p : PlayCall a k) → Fit a k p → model-claims.Fit depots h (carry k) (playOf k p)
   fit-so k p (e, f) = (
     ap (λ (l : Lent). badReplica (l .tail) (replicaIn (k .replica)) (k .table)) (stood-left a (p .stoodAfter)) ∙ e,
-    ap (λ (l : Lent). model.badStop (l .tail) (replicaIn (k .replica)) (p .stop)) (stood-left a (p .stoodAfter)) ∙ f,
+    ap (λ (l : Lent). model.badStop (l .tail) (replicaIn (k .replica)) (p .on .stop)) (stood-left a (p .stoodAfter)) ∙ f,
   )
 
   waits-so : (k : Kept) → Shows depots h (carry k) → (p : PlayCall a k) → Fit a k p
-      → Waiting (inLog (logAfter a (p .stoodAfter))) (hosts k) (k .replica .position) (p .stop) (leftOf k p)
+      → Waiting (inLog (logAfter a (p .stoodAfter))) (hosts k) (k .replica .position) (p .on .stop) (leftOf k p)
   waits-so k s p fit =
-      subst (Waiting (inLog (logAfter a (p .stoodAfter))) (hosts k) (k .replica .position) (p .stop)) (played-so k p)
-      (subst (λ (l : Lent). Waiting (inLog l) (hosts k) (k .replica .position) (p .stop) (played depots h (carry k) (playOf k p))) (stood-left a (p .stoodAfter))
+      subst (Waiting (inLog (logAfter a (p .stoodAfter))) (hosts k) (k .replica .position) (p .on .stop)) (played-so k p)
+      (subst (λ (l : Lent). Waiting (inLog l) (hosts k) (k .replica .position) (p .on .stop) (played depots h (carry k) (playOf k p))) (stood-left a (p .stoodAfter))
       (s .waits (playOf k p) (fit-so k p fit)))
 
-  lacks-so : (k : Kept) → Shows depots h (carry k) → (p : PlayCall a k) → Fit a k p → checkedIn (p .answer) ≡ model.plainly 13
-      → capacity (k .table) < cellsWritten theObjects (hosts k) (ran a (p .kept .replica .position + 1) .cells)
+  lacks-so : (k : Kept) → Shows depots h (carry k) → (p : PlayCall a k) → Fit a k p → checkedIn (p .on .answer) ≡ model.plainly 13
+      → capacity (k .table) < cellsWritten theObjects (hosts k) (ran a (p .on .kept .replica .position + 1) .cells)
   lacks-so k s p fit e =
       subst (λ (n : ℕ). capacity (k .table) < n)
       (ap (λ (l : model.Left). cellsWritten theObjects (hosts k) (ranTo depots h (l .replica .position + 1) .cells)) (played-so k p)
-      ∙ ap (λ (x : Run). cellsWritten theObjects (hosts k) (x .cells)) (ran-so a (p .kept .replica .position + 1)))
+      ∙ ap (λ (x : Run). cellsWritten theObjects (hosts k) (x .cells)) (ran-so a (p .on .kept .replica .position + 1)))
       (s .lacks (playOf k p) (fit-so k p fit) (ap (λ (l : model.Left). l .answer) (played-so k p) ∙ e))
 
   rereads-so : (k : Kept) → Shows depots h (carry k) → (p n : ℕ) (c : Claim) (x : Read) (r : ReadCall k (x .object) (x .key)) (held : Option Held) → p < lastLog a .tail
@@ -107,9 +107,9 @@ module _ (a : Appends) where
       → (ps : List Play) → plays depots h r ps ≡ carry k → (n : ℕ) → Outcomes (hosts k) (logAfter a n) (carry k) (ran a (k .replica .position))
   outcomes-so k scratch pass o r e ps f n =
       let given : Outcomes (hosted depots (r .replica .hosting)) (stood depots h n) (plays depots h r ps) (ranTo depots h (plays depots h r ps .replica .position)) =
-          λ m c b. demand2-depots .sameOutcomes h scratch pass o r e ps n m c b in
+      λ m c b. demand2-depots .sameOutcomes h scratch pass o r e ps n m c b in
       let same : hosted depots (r .replica .hosting) ≡ hosts k =
-          ap (hosted depots) (sym (plays-hosting depots h r ps) ∙ ap (λ (w : Carried). w .replica .hosting) f) in
+      ap (hosted depots) (sym (plays-hosting depots h r ps) ∙ ap (λ (w : Carried). w .replica .hosting) f) in
       subst (Outcomes (hosts k) (logAfter a n) (carry k)) (ran-so a (k .replica .position))
       (subst (λ (w : Carried). Outcomes (hosts k) (logAfter a n) w (ranTo depots h (w .replica .position))) f
       (subst (λ (l : Lent). Outcomes (hosts k) l (plays depots h r ps) (ranTo depots h (plays depots h r ps .replica .position))) (stood-left a n)
@@ -122,7 +122,7 @@ calls-behave a audit d k o last ps =
     let op = opened-so a k o in
     let pl = plays-so a k last ps in
     let s : Shows depots (history a) (carry last) =
-        subst (Shows depots (history a)) (pl .1) (demand3-depots (history a) (audit .scratch) pass (op .0) (carry k) (op .1) (pl .0)) in
+    subst (Shows depots (history a)) (pl .1) (demand3-depots (history a) (audit .scratch) pass (op .0) (carry k) (op .1) (pl .0)) in
     record {
       cells = λ o key c m i. c .promise ∙ s .cells o key m i ∙ ap (λ (x : Run). done (x .cells o key)) (ran-so a (last .replica .position));
       count = s .count ∙ ap (λ (x : Run). cellsWritten theObjects (hosts last) (x .cells)) (ran-so a (last .replica .position));

@@ -29,8 +29,8 @@ pub calls-keep-good : CallsKeepGood
 unfolding check
 calls-keep-good a c o e =
     let good : lowestBad depots (inLog (lastLog a)) ≡ none =
-        ap (λ (l : Lent). lowestBad depots (inLog l)) (sym (whole-left a)) ∙ keeps-good-depots (history a) in
+    ap (λ (l : Lent). lowestBad depots (inLog l)) (sym (whole-left a)) ∙ keeps-good-depots (history a) in
     let told : numberIn (answer (firstOf (refuse 1 (badFrame (inLog (lastLog a))) ∷ refuseAt 2 none ∷ [])) tt) ≡ 2 =
-        ap (λ (x : Option ℕ). numberIn (answer (firstOf (refuse 1 (badFrame (inLog (lastLog a))) ∷ refuseAt 2 x ∷ [])) tt)) (sym good)
-        ∙ ap numberIn (sym (c .promise)) ∙ ap (λ x. numberIn (checkedIn x)) e in
+    ap (λ (x : Option ℕ). numberIn (answer (firstOf (refuse 1 (badFrame (inLog (lastLog a))) ∷ refuseAt 2 x ∷ [])) tt)) (sym good)
+    ∙ ap numberIn (sym (c .promise)) ∙ ap (λ x. numberIn (checkedIn x)) e in
     never-two (badFrame (inLog (lastLog a))) told

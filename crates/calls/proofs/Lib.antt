@@ -2,3 +2,4 @@ pub mod Histories
 pub mod Behave
 pub mod ReadBack
 pub mod KeepGood
+pub mod Instalments

@@ -57,19 +57,22 @@ told (found.Refused r) i e = clash true refl (ap isRefused e)
 pub calls-read-back : CallsReadBack
 calls-read-back c t d e i =
     let back : Back depots (lentAt c) (c .request) = demand2-depots .readsBack (lentAt c) (c .request) (accepted-so (lentAt c) c t refl refl d) in
-    let m = told (e .answer) (back .info) (sym (info-so (lentAt c) c t refl refl d e) ∙ back .reads) in
-    (m .0, m .1, record {
-      kind = ap (λ (x : reading.Info). x .kind) (sym (m .2)) ∙ back .kind;
-      number = ap (λ (x : reading.Info). x .number) (sym (m .2)) ∙ back .number;
-      objects = ap headerObjectsIn (sym (m .2)) ∙ back .objects;
-      items = λ b. sym (items-so (lentAt c) c t refl refl d i) ∙ back .items b;
-    })
+    let m = told (e .answer) (back .info) (sym (info-so (lentAt c) c t refl refl d e) ∙ back .reads) in (
+      m .0,
+      m .1,
+      record {
+        kind = ap (λ (x : reading.Info). x .kind) (sym (m .2)) ∙ back .kind;
+        number = ap (λ (x : reading.Info). x .number) (sym (m .2)) ∙ back .number;
+        objects = ap headerObjectsIn (sym (m .2)) ∙ back .objects;
+        items = λ b. sym (items-so (lentAt c) c t refl refl d i) ∙ back .items b;
+      },
+    )
 
 pub calls-same-bytes : CallsSameBytes
 calls-same-bytes c d t u eb et dc dd e i f j m n em en k x o p =
     let l : Lent = lentAt c in
     let same = demand2-depots .sameBytes l (c .request) (d .request) (infoOf m) (infoOf n)
-        (accepted-so l c t refl refl dc) (accepted-so l d u (sym eb) (sym et) dd)
-        (info-so l c t refl refl dc e ∙ ap foundIn em) (info-so l d u (sym eb) (sym et) dd f ∙ ap foundIn en)
-        k x o (items-so l c t refl refl dc i ∙ p ∙ sym (items-so l d u (sym eb) (sym et) dd j)) in
+    (accepted-so l c t refl refl dc) (accepted-so l d u (sym eb) (sym et) dd)
+    (info-so l c t refl refl dc e ∙ ap foundIn em) (info-so l d u (sym eb) (sym et) dd f ∙ ap foundIn en)
+    k x o (items-so l c t refl refl dc i ∙ p ∙ sym (items-so l d u (sym eb) (sym et) dd j)) in
     ap (λ (y : Lent). y .bytes) (sym (after-so l c t refl refl dc)) ∙ same ∙ ap (λ (y : Lent). y .bytes) (after-so l d u (sym eb) (sym et) dd)

@@ -1,5 +1,5 @@
 -- Demands 2 and 3 as types over calls as values. What a call answered and left is all that they name, beside the run.
-use Prim.Native.Nat.{ℕ, _+_, _<_}
+use Prim.Native.Nat.{ℕ, _+_, _<_, _≤_}
 use mathlib.Core.Path.{_≡_}
 use mathlib.Core.Bool.{Bool, true, false}
 use mathlib.Core.List.{List, List·Memᴰ}
@@ -11,7 +11,7 @@ use Rattle.model.specs.Table.{cellsOf, capacity, versionIn}
 use Rattle.model.specs.Play.{outcome}
 use Rattle.model.specs.Answers.{done}
 use Rattle.model.specs.Append.{entryOf, badReplica}
-use Rattle.model.specs.Replica.{plainly, badStop}
+use Rattle.model.specs.Replica.{Left, plainly, badStop}
 use Rattle.model.specs.Run.{current}
 use Rattle.model.specs.Claims.{Lent, inLog, Waiting, cellsWritten, Bytes, givenItems, kindGiven, headerObjectsIn}
 use Rattle.entries.specs.declared.calls.Checked.the-variants as checked
@@ -23,7 +23,7 @@ use Rattle.codec.specs.declared.names.Offset.{Offset}
 use Rattle.append.specs.declared.write.Appended.the-variants as appended
 use Rattle.records.specs.Record.{replicaIn}
 use Rattle.replica.specs.Answers.{readIn}
-use Rattle.calls.specs.Values.{AppendCall, Appends, lastLog, logAfter, ran, CheckCall, EntryCall, ItemsCall, AuditCall, Kept, Opens, PlayCall, Plays, ReadCall}
+use Rattle.calls.specs.Values.{AppendCall, Appends, lastLog, logAfter, ran, CheckCall, EntryCall, ItemsCall, AuditCall, Kept, Opens, PlayOn, PlayCall, Plays, ReadCall}
 
 -- ---- demand 3
 
@@ -33,7 +33,7 @@ hosts k = hosted depots (k .replica .hosted)
 -- a play that is not refused for its record or its stop
 abbrev pub Fit : (a : Appends) (k : Kept) → PlayCall a k → Type 0
 Fit a k p = (badReplica (logAfter a (p .stoodAfter) .tail) (replicaIn (k .replica)) (k .table) ≡ false)
-    × (badStop (logAfter a (p .stoodAfter) .tail) (replicaIn (k .replica)) (p .stop) ≡ false)
+    × (badStop (logAfter a (p .stoodAfter) .tail) (replicaIn (k .replica)) (p .on .stop) ≡ false)
 
 -- what the calls on a replica say after its plays: the sentences of `Shows` in the model's claims
 pub record Behaves (a : Appends) (k : Kept) : Type 0 where
@@ -41,10 +41,10 @@ pub record Behaves (a : Appends) (k : Kept) : Type 0 where
       → readIn (c .answer) ≡ done (ran a (k .replica .position) .cells o key)
   pub count : k .replica .count ≡ cellsWritten theObjects (hosts k) (ran a (k .replica .position) .cells)
   pub waits : (p : PlayCall a k) → Fit a k p
-      → Waiting (inLog (logAfter a (p .stoodAfter))) (hosts k) (k .replica .position) (p .stop)
-      (record { answer = checkedIn (p .answer); replica = replicaIn (p .kept .replica); table = p .kept .table })
-  pub lacks : (p : PlayCall a k) → Fit a k p → checkedIn (p .answer) ≡ plainly 13
-      → capacity (k .table) < cellsWritten theObjects (hosts k) (ran a (p .kept .replica .position + 1) .cells)
+      → Waiting (inLog (logAfter a (p .stoodAfter))) (hosts k) (k .replica .position) (p .on .stop)
+      (record { answer = checkedIn (p .on .answer); replica = replicaIn (p .on .kept .replica); table = p .on .kept .table })
+  pub lacks : (p : PlayCall a k) → Fit a k p → checkedIn (p .on .answer) ≡ plainly 13
+      → capacity (k .table) < cellsWritten theObjects (hosts k) (ran a (p .on .kept .replica .position + 1) .cells)
   pub rereads : (p n : ℕ) (c : Claim) (x : Read) (r : ReadCall k (x .object) (x .key)) (held : Option Held) → p < lastLog a .tail
       → inLog (lastLog a) .entry p ≡ commit n c → current (ran a p .cells) (c .reads) ≡ true
       → List·Memᴰ x (c .reads) → readIn (r .answer) ≡ done held → versionIn held ≡ x .version
@@ -88,3 +88,15 @@ CallsSameBytes = (c d : AppendCall) (t u : ℕ) → c .bytes ≡ d .bytes → c 
 -- append keeps a log good: the check of the log that a list of appends left never tells a bad entry
 abbrev pub CallsKeepGood : Type 0
 CallsKeepGood = (a : Appends) (c : CheckCall (lastLog a)) (o : Offset) → c .answer ≡ checked.Refused (refusal.BadEntry o) → ⊥
+
+-- ---- instalments
+
+abbrev pub leftOf : (log : Lent) (k : Kept) → PlayOn log k → Left
+leftOf log k p = record { answer = checkedIn (p .answer); replica = replicaIn (p .kept .replica); table = p .kept .table }
+
+-- a play to one stop and then to a second gives the answer, the record and the table of one play to the second
+abbrev pub CallsInstalments : Type 0
+CallsInstalments = (log : Lent) (k : Kept) → Bytes (k .table)
+    → (first : PlayOn log k) (second : PlayOn log (first .kept)) (whole : PlayOn log k)
+    → second .stop ≡ whole .stop → first .stop ≤ whole .stop → whole .stop ≤ log .tail
+    → leftOf log (first .kept) second ≡ leftOf log k whole
