@@ -13,6 +13,7 @@ use Rattle.lists.specs.Tests.{ands, ors, clash, neither}
 use Rattle.lists.specs.Sets.{all, meets}
 use Rattle.model.specs.Objects.{depots, hosted}
 use Rattle.model.specs.Entries.{Write, Entry, plain, numbered, commit, decision, checkpoint, blank, Effect, effect, Log, writesOf, headerObjects}
+use Rattle.model.specs.Slot.{logIn}
 use Rattle.model.specs.Rules.{okWrite, okWrites, okEntry, lowestBad}
 use Rattle.model.specs.Table.{Cell, cellsOf, tableWith, capacity, apply}
 use Rattle.model.specs.Play.{Played, going, waits, lacks, cellsIn, versionAt, outcome, make, finish, act, step, andThen, play}
@@ -313,11 +314,12 @@ module _ (log : Log) where
 
 -- Instalments of the calls.
 pub calls-instalments : CallsInstalments
-calls-instalments log k bytes first second whole e l m =
-    let stop : ℕ = whole .stop in
-    let given : leftOf log (first .kept) second ≡ model.playCall depots (inLog log) (replicaIn (first .kept .replica)) (first .kept .table) stop =
-    second .promise ∙ ap (model.playCall depots (inLog log) (replicaIn (first .kept .replica)) (first .kept .table)) e in
+unfolding logIn
+calls-instalments log k bytes one two entire e l m =
+    let stop : ℕ = entire .stop in
+    let given : leftOf log (one .kept) two ≡ model.playCall depots (inLog log) (replicaIn (one .kept .replica)) (one .kept .table) stop =
+    two .promise ∙ ap (model.playCall depots (inLog log) (replicaIn (one .kept .replica)) (one .kept .table)) e in
     given
-    ∙ ap (λ (x : model.Left). model.playCall depots (inLog log) (x .replica) (x .table) stop) (first .promise)
-    ∙ instalments (inLog log) (replicaIn (k .replica)) (k .table) bytes (first .stop) stop l m
-    ∙ sym (whole .promise)
+    ∙ ap (λ (x : model.Left). model.playCall depots (inLog log) (x .replica) (x .table) stop) (one .promise)
+    ∙ instalments (inLog log) (replicaIn (k .replica)) (k .table) bytes (one .stop) stop l m
+    ∙ sym (entire .promise)
