@@ -32,6 +32,7 @@ pub fn far(pair: &mut Pair, seed: u64) -> Result<(), Difference> {
 }
 
 /// Early entries of objects 1 to 7, a long stretch of object 8, then random appends: their nearest entries are far.
+/// Offset 0 is the one early entry of its object, whose next is at 65,535 or 65,536.
 fn grown(random: &mut Random, seed: u64) -> (Vec<u8>, u64) {
     let mix = Mix {
         broken: 0,
@@ -39,20 +40,24 @@ fn grown(random: &mut Random, seed: u64) -> (Vec<u8>, u64) {
     };
     let slots = 65_560 + random.below(40) as usize;
     let mut history = History::new(seed, slots, mix);
-    for at in 0..7 + random.below(20) {
+    let lowest = 1 + seed % 7;
+    let early = 7 + random.below(20);
+    for at in 0..early {
         let object = match at {
             0..=6 => 1 + (at + seed) % 7,
-            _ => 1 + random.below(7),
+            _ => 1 + (lowest + random.below(6)) % 7,
         };
         history.append(update(0, &[put(object as u32, 0, at as u32)]));
     }
-    while history.writer.tail < 65_536 - 3 {
-        let value = history.writer.tail as u32;
-        history.append(update(0, &[put(FILLER, 0, value)]));
-    }
+    let next = 65_535 + (seed % 2) as usize;
     while history.writer.tail < 65_545 {
-        let object = 1 + random.below(7) as u32;
-        history.append(update(0, &[put(object, 0, 9)]));
+        let at = history.writer.tail;
+        let object = match at {
+            _ if at == next => lowest,
+            65_533.. => 1 + (lowest + random.below(6)) % 7,
+            _ => FILLER.into(),
+        };
+        history.append(update(0, &[put(object as u32, 0, at as u32)]));
     }
     while history.writer.tail < slots - 4 {
         history.step();
