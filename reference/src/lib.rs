@@ -12,6 +12,7 @@ pub mod broken;
 pub mod bytes;
 pub mod cases;
 pub mod earlier;
+pub mod examples;
 pub mod log;
 pub mod objects;
 pub mod playing;
