@@ -10,7 +10,7 @@ use entries::calls::Checked;
 fn report(log: &[u8]) {
     let tail = log.len() / 256;
     let mut scratch = [0u8; 65520];
-    let l = replica::playing::play(log, tail, records::Record { hosted: 255, position: 0, count: 0 }, &mut scratch, tail as u64);
+    let l = audit::audit(log, tail, &mut scratch);
     let a = l.answer;
     match a {
         Checked::Refused(r) => {
