@@ -7,6 +7,7 @@ pub mod answer;
 pub mod append;
 pub mod appending;
 pub mod audit;
+pub mod auditing;
 pub mod boundary;
 pub mod broken;
 pub mod bytes;

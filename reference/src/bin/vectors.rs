@@ -1,5 +1,5 @@
-//! Stored vectors for test programs: `vectors reading OUTDIR`, `vectors appending OUTDIR` and `vectors playing OUTDIR`
-//! write OUTDIR/stdin and OUTDIR/stdout.
+//! Stored vectors for test programs: `vectors reading OUTDIR`, likewise `appending`, `playing` and `auditing`, writes
+//! OUTDIR/stdin and OUTDIR/stdout.
 //!
 //! stdin is a sequence of cases to its end, its numbers stored most significant byte first. stdout is what a program
 //! prints for all cases, in order. Numbers are decimal, with single spaces and '\n' ends; K is the offset told or "-".
@@ -50,12 +50,22 @@
 //!
 //! At the end of a case: `table`, and after a space each all bytes of the table as 4-byte words; a last part of fewer
 //! than 4 bytes is left out.
+//!
+//! # Auditing
+//!
+//! As playing, with two kinds of request more:
+//!
+//! - 4 open at a checkpoint: 4 bytes tail, 8 bytes offset. `restore done H P C` or `restore refused N at K`; refused,
+//!   the record stays.
+//! - 5 audit, with the table as its scratch: 4 bytes tail. `audit done H P C` or `audit refused N at K H P C`, with the
+//!   record as left, which is 0 0 0 where the log is refused. The next request is made on that record.
 
 use std::fmt::Write;
 use std::path::Path;
 use std::process::ExitCode;
 
 use reference::appending::{self, appending};
+use reference::auditing::auditing;
 use reference::cases::reading;
 use reference::log::{check, entry, header, items, list, next, owed};
 use reference::playing::{self, playing};
@@ -66,13 +76,14 @@ const FILLED: u32 = 77_777;
 fn main() -> ExitCode {
     let arguments: Vec<String> = std::env::args().skip(1).collect();
     let [what, directory] = arguments.as_slice() else {
-        eprintln!("usage: vectors reading|appending|playing OUTDIR");
+        eprintln!("usage: vectors reading|appending|playing|auditing OUTDIR");
         return ExitCode::from(2);
     };
     let vectors = match what.as_str() {
         "reading" => of_reading(),
         "appending" => of_appending(),
-        "playing" => of_playing(),
+        "playing" => of_playing(&playing()),
+        "auditing" => of_playing(&auditing()),
         _ => {
             eprintln!("unknown vectors: {what}");
             return ExitCode::from(2);
@@ -118,12 +129,11 @@ fn of_appending() -> Vectors {
     }
 }
 
-fn of_playing() -> Vectors {
-    let cases = playing();
+fn of_playing(cases: &[playing::Case]) -> Vectors {
     Vectors {
         cases: cases.len(),
-        input: playing::input(&cases),
-        output: playing::output(&cases),
+        input: playing::input(cases),
+        output: playing::output(cases),
     }
 }
 
