@@ -29,7 +29,7 @@
 //! - 2 commit: the same, with the reads' bytes.
 //! - 3 decision: 8 bytes offset, 4 bytes outcome.
 //! - 4 checkpoint: 4 bytes hosted set, 8 bytes position, 8 bytes count, 4 bytes object, 4 bytes length of the table in
-//!   bytes, the table's bytes. There is no case of it yet.
+//!   bytes, the table's bytes.
 //!
 //! For each request: `update done T` with the new tail T, or `update refused N at K`; likewise `commit`, `decision`,
 //! `checkpoint`. At the end of a case: `log`, and after a space each all bytes of the log as 4-byte words; a last part
