@@ -1,0 +1,62 @@
+// The appends.
+ghost use mathlib.Core.Path.{_≡_};
+ghost use Rattle.model.specs.Objects.{depots};
+ghost use Rattle.model.specs.Append as model;
+ghost use Rattle.append.specs.Answers.{tailIn};
+ghost use Rattle.stocklog.specs.Replies.{numberReply, appendReply};
+ghost use Rattle.stocklog.specs.Numbers.{numbersIn};
+use crate::numbers::Numbers;
+use append::write::Appended;
+use codec::names::Offset;
+use codec::names::TxNumber;
+
+fn of_appended(a: Appended) -> Numbers
+    ensures { λ m. ⌜ numbersIn m ≡ numberReply (tailIn a) ⌝ }
+{
+    match a {
+        Appended::Tail(t) => crate::numbers::done(t as u64, 0, 0),
+        Appended::Refused(r) => crate::numbers::refusal(r, 0, 0, 0),
+    }
+}
+
+#[no_mangle]
+pub extern "C" fn stocklog_append_update(
+    log: &mut [u8],
+    tail: usize,
+    number: u32,
+    items: &[u8],
+    out: &mut [u64; 4],
+) -> u32
+    ensures { λ r. ⌜ record { reply = record { number = r; out = now (out .exit) }; lent = now (log .exit) } ≡ appendReply (model.append depots (now (log .entry)) tail (model.update number (now (items .entry)))) ⌝ }
+{
+    let a = append::update::update(log, tail, TxNumber(number), items);
+    crate::numbers::put(out, of_appended(a))
+}
+
+#[no_mangle]
+pub extern "C" fn stocklog_append_commit(
+    log: &mut [u8],
+    tail: usize,
+    number: u32,
+    reads: &[u8],
+    out: &mut [u64; 4],
+) -> u32
+    ensures { λ r. ⌜ record { reply = record { number = r; out = now (out .exit) }; lent = now (log .exit) } ≡ appendReply (model.append depots (now (log .entry)) tail (model.commits number (now (reads .entry)))) ⌝ }
+{
+    let a = append::commit::commit(log, tail, TxNumber(number), reads);
+    crate::numbers::put(out, of_appended(a))
+}
+
+#[no_mangle]
+pub extern "C" fn stocklog_append_decision(
+    log: &mut [u8],
+    tail: usize,
+    offset: u64,
+    outcome: u32,
+    out: &mut [u64; 4],
+) -> u32
+    ensures { λ r. ⌜ record { reply = record { number = r; out = now (out .exit) }; lent = now (log .exit) } ≡ appendReply (model.append depots (now (log .entry)) tail (model.decides offset outcome)) ⌝ }
+{
+    let a = append::decision::decision(log, tail, Offset(offset), outcome);
+    crate::numbers::put(out, of_appended(a))
+}
