@@ -14,7 +14,7 @@ use Rattle.model.specs.Reading.{Header}
 use Rattle.codec.specs.Marks.{kindOf}
 use Rattle.entries.specs.declared.calls.Info.{Info}
 use Rattle.entries.specs.Answers.{headerOf, infoOf}
-use Rattle.stocklog.specs.Replies.{values, noValues, reply, coded, infoValues, nth, headerReply}
+use Rattle.stocklog.specs.Replies.{values, noValues, reply, coded, infoValues, nth}
 
 -- ---- the number of headers
 

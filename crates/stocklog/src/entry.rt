@@ -1,6 +1,5 @@
 // The calls that read one entry: its fields, one of its headers, where its items lie.
 ghost use mathlib.Core.Path.{_≡_};
-ghost use lib.ListN.{length, take};
 ghost use Rattle.model.specs.Objects.{depots};
 ghost use Rattle.model.specs.Slot.{logOf};
 ghost use Rattle.model.specs.Reading.{entryCall, itemList};

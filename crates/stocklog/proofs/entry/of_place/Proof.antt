@@ -1,5 +1,5 @@
 -- Past the number of headers 3; of the four places each has its own header.
-use mathlib.Core.Path.{ap, sym, _∙_}
+use mathlib.Core.Path.{ap, _∙_}
 use Rattle.stocklog.specs.Replies.{headerReply}
 use Rattle.stocklog.specs.Entry.{place-is, place-above, place-fifth}
 use borrow.Author.Needs.{needs}
