@@ -1,4 +1,4 @@
-// The appends.
+// The appends. Done, the first value is the new tail; refused, the log is as it was.
 ghost use mathlib.Core.Path.{_≡_};
 ghost use Rattle.model.specs.Objects.{depots};
 ghost use Rattle.model.specs.Append as model;
@@ -19,6 +19,7 @@ fn of_appended(a: Appended) -> Numbers
     }
 }
 
+// An update, plain or of a transaction.
 #[no_mangle]
 pub extern "C" fn stocklog_append_update(
     log: &mut [u8],
@@ -33,6 +34,7 @@ pub extern "C" fn stocklog_append_update(
     crate::numbers::put(out, of_appended(a))
 }
 
+// A transaction's commit record.
 #[no_mangle]
 pub extern "C" fn stocklog_append_commit(
     log: &mut [u8],
@@ -47,6 +49,7 @@ pub extern "C" fn stocklog_append_commit(
     crate::numbers::put(out, of_appended(a))
 }
 
+// The outcome of a commit record.
 #[no_mangle]
 pub extern "C" fn stocklog_append_decision(
     log: &mut [u8],

@@ -52,6 +52,7 @@ fn of_entry(f: Found) -> Numbers
     }
 }
 
+// How many items; 0 where it is refused.
 fn items_of(f: Found) -> u64
     ensures { λ n. ⌜ n ≡ itemsTold (foundIn f) ⌝ }
 {
@@ -61,6 +62,7 @@ fn items_of(f: Found) -> u64
     }
 }
 
+// Kind, number and how many headers; in the fifth place how many items.
 #[no_mangle]
 pub extern "C" fn stocklog_entry(log: &[u8], tail: usize, offset: u64, out: &mut [u64; 8]) -> u32
     ensures { λ r. ⌜ record { number = r; out = now (out .exit) } ≡ entryReply (entryCall depots (logOf (now (log .entry)) tail) offset) ⌝ }
@@ -92,6 +94,7 @@ fn of_place(i: Info, place: u32) -> Numbers
     }
 }
 
+// The same of the entry call's answer.
 fn of_found(f: Found, place: u32) -> Numbers
     ensures { λ n. ⌜ numbersIn n ≡ headerReply (headerIn (foundIn f) place) ⌝ }
 {
@@ -101,6 +104,7 @@ fn of_found(f: Found, place: u32) -> Numbers
     }
 }
 
+// Object, format and the 8 bytes of a header by its place.
 #[no_mangle]
 pub extern "C" fn stocklog_header(
     log: &[u8],
@@ -115,6 +119,7 @@ pub extern "C" fn stocklog_header(
     crate::numbers::put(out, of_found(f, place))
 }
 
+// Where the items lie in the log: byte position and length. That part of the log's own bytes is the item list.
 #[no_mangle]
 pub extern "C" fn stocklog_items(log: &[u8], tail: usize, offset: u64, out: &mut [u64; 4]) -> u32
     ensures { λ r. ⌜ record { number = r; out = now (out .exit) } ≡ itemsReply offset (entryCall depots (logOf (now (log .entry)) tail) offset) ⌝ }

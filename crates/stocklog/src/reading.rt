@@ -1,4 +1,4 @@
-// The calls that read a log.
+// The calls that read a whole log.
 ghost use mathlib.Core.Path.{_≡_};
 ghost use Rattle.model.specs.Objects.{depots};
 ghost use Rattle.model.specs.Slot.{logOf};
@@ -19,6 +19,7 @@ fn of_check(c: Checked) -> Numbers
     }
 }
 
+// The frame and every entry below the tail.
 #[no_mangle]
 pub extern "C" fn stocklog_check(log: &[u8], tail: usize, out: &mut [u64; 4]) -> u32
     ensures { λ r. ⌜ record { number = r; out = now (out .exit) } ≡ checkReply (check depots (logOf (now (log .entry)) tail)) ⌝ }
@@ -36,6 +37,7 @@ fn of_owed(o: Owed) -> Numbers
     }
 }
 
+// 1 and the lowest offset that owes a decision record; or 0.
 #[no_mangle]
 pub extern "C" fn stocklog_owed(log: &[u8], tail: usize, out: &mut [u64; 4]) -> u32
     ensures { λ r. ⌜ record { number = r; out = now (out .exit) } ≡ owedReply (owed depots (logOf (now (log .entry)) tail)) ⌝ }

@@ -2,7 +2,7 @@
 ghost use mathlib.Core.Path.{_≡_};
 ghost use Rattle.model.specs.Objects.{depots};
 ghost use Rattle.model.specs.Slot.{logOf};
-ghost use Rattle.model.specs.Replica.{openFresh, playCall, readCell};
+ghost use Rattle.model.specs.Replica.{openFresh, openAt, playCall, readCell};
 ghost use Rattle.entries.specs.Answers.{checkedIn};
 ghost use Rattle.records.specs.Record.{replicaIn};
 ghost use Rattle.replica.specs.Answers.{openedIn, readIn};
@@ -27,6 +27,7 @@ fn of_opened(o: Opened) -> Numbers
     }
 }
 
+// A replica of a set at offset 0.
 #[no_mangle]
 pub extern "C" fn stocklog_open_fresh(hosted: u8, out: &mut [u64; 4]) -> u32
     ensures { λ r. ⌜ record { number = r; out = now (out .exit) } ≡ openReply (openFresh hosted) ⌝ }
@@ -46,6 +47,22 @@ fn of_left(l: Left) -> Numbers
     }
 }
 
+// A replica opened at the checkpoint at an offset.
+#[no_mangle]
+pub extern "C" fn stocklog_open_checkpoint(
+    log: &[u8],
+    tail: usize,
+    offset: u64,
+    table: &mut [u8],
+    out: &mut [u64; 4],
+) -> u32
+    ensures { λ r. ⌜ record { reply = record { number = r; out = now (out .exit) }; lent = now (table .exit) } ≡ leftReply (openAt depots (logOf (now (log .entry)) tail) offset (now (table .entry))) ⌝ }
+{
+    let l = replica::restoring::open_at(log, tail, offset, table);
+    crate::numbers::put(out, of_left(l))
+}
+
+// A replica played from its position to a stop.
 #[no_mangle]
 pub extern "C" fn stocklog_play(
     log: &[u8],
@@ -93,6 +110,7 @@ fn of_reading(a: Reading) -> Numbers
     }
 }
 
+// What a replica shows for a cell.
 #[no_mangle]
 pub extern "C" fn stocklog_read_cell(
     hosted: u8,

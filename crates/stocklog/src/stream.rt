@@ -25,6 +25,7 @@ fn of_next(n: Next) -> Numbers
     }
 }
 
+// 1, the next entry's offset and the reader after it; or 0, 0 and the tail. Refused: 0, 0 and the reader as it was.
 #[no_mangle]
 pub extern "C" fn stocklog_stream_next(
     log: &[u8],
@@ -48,6 +49,7 @@ fn of_listed(l: Listed) -> Numbers
     }
 }
 
+// How many offsets the object has; they are at the start of the list.
 #[no_mangle]
 pub extern "C" fn stocklog_stream_list(
     log: &[u8],
