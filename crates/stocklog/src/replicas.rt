@@ -43,7 +43,7 @@ fn of_left(l: Left) -> Numbers
     let a = l.answer;
     match a {
         Checked::Done => crate::numbers::done(r.hosted as u64, r.position, r.count),
-        Checked::Refused(x) => { crate::numbers::refusal(x, r.hosted as u64, r.position, r.count) }
+        Checked::Refused(x) => crate::numbers::refusal(x, r.hosted as u64, r.position, r.count),
     }
 }
 
