@@ -7,8 +7,10 @@ ghost use Rattle.stocklog.specs.Replies.{numberReply, appendReply};
 ghost use Rattle.stocklog.specs.Numbers.{numbersIn};
 use crate::numbers::Numbers;
 use append::write::Appended;
+use codec::names::ObjectId;
 use codec::names::Offset;
 use codec::names::TxNumber;
+use records::Record;
 
 fn of_appended(a: Appended) -> Numbers
     ensures { λ m. ⌜ numbersIn m ≡ numberReply (tailIn a) ⌝ }
@@ -61,5 +63,28 @@ pub extern "C" fn stocklog_append_decision(
     ensures { λ r. ⌜ record { reply = record { number = r; out = now (out .exit) }; lent = now (log .exit) } ≡ appendReply (model.append depots (now (log .entry)) tail (model.decides offset outcome)) ⌝ }
 {
     let a = append::decision::decision(log, tail, Offset(offset), outcome);
+    crate::numbers::put(out, of_appended(a))
+}
+
+// The cells of one object of a replica.
+#[no_mangle]
+pub extern "C" fn stocklog_append_checkpoint(
+    log: &mut [u8],
+    tail: usize,
+    hosted: u8,
+    position: u64,
+    count: u64,
+    table: &[u8],
+    object: u32,
+    out: &mut [u64; 4],
+) -> u32
+    ensures { λ r. ⌜ record { reply = record { number = r; out = now (out .exit) }; lent = now (log .exit) } ≡ appendReply (model.append depots (now (log .entry)) tail (model.saves (record { hosting = hosted; position = position; count = count }) (now (table .entry)) object)) ⌝ }
+{
+    let r = Record {
+        hosted: hosted,
+        position: position,
+        count: count,
+    };
+    let a = append::checkpoint::checkpoint(log, tail, r, table, ObjectId(object));
     crate::numbers::put(out, of_appended(a))
 }
