@@ -1,8 +1,8 @@
-// The calls on a replica. Its record comes as three numbers and goes out as three numbers.
+// The calls on a replica, and the audit. A record comes as three numbers and goes out as three numbers.
 ghost use mathlib.Core.Path.{_≡_};
 ghost use Rattle.model.specs.Objects.{depots};
 ghost use Rattle.model.specs.Slot.{logOf};
-ghost use Rattle.model.specs.Replica.{openFresh, openAt, playCall, readCell};
+ghost use Rattle.model.specs.Replica.{openFresh, openAt, playCall, readCell, audit};
 ghost use Rattle.entries.specs.Answers.{checkedIn};
 ghost use Rattle.records.specs.Record.{replicaIn};
 ghost use Rattle.replica.specs.Answers.{openedIn, readIn};
@@ -130,4 +130,18 @@ pub extern "C" fn stocklog_read_cell(
     };
     let a = replica::cells::read_cell(r, table, ObjectId(object), key);
     crate::numbers::put(out, of_reading(a))
+}
+
+// The audit's play as a record, with 11 and 13 too.
+#[no_mangle]
+pub extern "C" fn stocklog_audit(
+    log: &[u8],
+    tail: usize,
+    scratch: &mut [u8],
+    out: &mut [u64; 4],
+) -> u32
+    ensures { λ r. ⌜ record { reply = record { number = r; out = now (out .exit) }; lent = now (scratch .exit) } ≡ leftReply (audit depots (logOf (now (log .entry)) tail) (now (scratch .entry))) ⌝ }
+{
+    let l = audit::audit(log, tail, scratch);
+    crate::numbers::put(out, of_left(l))
 }
