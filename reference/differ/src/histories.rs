@@ -54,11 +54,12 @@ pub fn history(pair: &mut Pair, seed: u64) -> Result<(), Difference> {
 
 /// Few slots mostly, so that logs are full soon.
 fn slots(random: &mut Random) -> usize {
-    let slots = match random.below(100) {
-        0..=24 => random.below(9),
-        25..=84 => 9 + random.below(18),
-        85..=98 => 27 + random.below(28),
-        _ => 55 + random.below(70),
+    let slots = match random.below(1000) {
+        0..=249 => random.below(9),
+        250..=849 => 9 + random.below(18),
+        850..=989 => 27 + random.below(28),
+        990..=998 => 55 + random.below(70),
+        _ => 150 + random.below(250),
     };
     slots as usize
 }
