@@ -16,11 +16,17 @@
  *   only reads may overlap. Nothing else is asked of the caller: no alignment of byte slices, no range of a number.
  * - No call keeps a pointer, allocates, has state of its own, or waits. Calls from several threads are safe as long as none of
  *   them writes what another uses.
- * - Stack: see STOCKLOG_STACK below.
+ * - Stack: STOCKLOG_STACK bytes are enough for any call.
  *
  * THE LOG is a slice of 256-byte slots, at most 131,072 of them; tail counts the used ones. The caller keeps the tail: 0 for a
  * new log (whose bytes may be anything), then what each append answers. Slots at and above the tail are neither read nor judged.
  * Integers in slots, items and tables are unsigned and stored most significant byte first.
+ *
+ * OBJECTS, each of which is one stream. Keys go from 0 to the highest; a register has key 0 alone.
+ *   1 filters used, by patient  9999  marked     5 orders, by item    9999
+ *   2 north depot stock          499             6 next order number     0  marked
+ *   3 south depot stock          499  marked     7 price list number     0
+ *   4 van stock                  499  marked     8 last stocktake        0
  *
  * ITEMS are 16 bytes each:
  *   a write: object 4, key 4, operation 4 (1 put, 2 remove), value 4 (0 for remove)
@@ -76,9 +82,19 @@ enum { STOCKLOG_COMMITTED = 1, STOCKLOG_ABORTED = 2 };
 enum { STOCKLOG_NEVER_WRITTEN = 0, STOCKLOG_HOLDS = 1, STOCKLOG_REMOVED = 2 };
 
 /* Sizes in bytes, and limits. */
-enum { STOCKLOG_SLOT_SIZE = 256, STOCKLOG_ITEM_SIZE = 16, STOCKLOG_CELL_SIZE = 24, STOCKLOG_MOST_SLOTS = 131072, STOCKLOG_MOST_ITEMS = 12 };
+enum {
+    STOCKLOG_SLOT_SIZE = 256,
+    STOCKLOG_ITEM_SIZE = 16,
+    STOCKLOG_CELL_SIZE = 24,
+    STOCKLOG_MOST_SLOTS = 131072,
+    STOCKLOG_MOST_ITEMS = 12
+};
 
-/* Bytes of stack that are enough for any call, from its entry on. */
+/*
+ * Bytes of stack that are enough for any call, from its entry on, on x86-64. No call recurses, and its arrays have fixed
+ * lengths, so its use does not depend on the log. tools/stack adds it up from the archive's machine code (frames along the
+ * calls, and 16 KiB for memset and memcpy) and fails above this bound.
+ */
 enum { STOCKLOG_STACK = 2097152 };
 
 /* ---- Reading a log. Nothing lent is changed, but for out and the list of stocklog_stream_list. ---- */
@@ -87,7 +103,7 @@ enum { STOCKLOG_STACK = 2097152 };
 uint32_t stocklog_check(const uint8_t *log, size_t log_len, uint64_t tail, uint64_t out[4]);
 
 /*
- * The lowest commit record that owes a decision record: it reads a marked object (1, 3, 4 or 6) and no decision names it.
+ * The lowest commit record that owes a decision record: it reads a marked object and no decision names it.
  * Done: out[0] is 1 and out[1] its offset; or out[0] and out[1] are 0 where none owes. Refusals: 1, 2.
  */
 uint32_t stocklog_owed(const uint8_t *log, size_t log_len, uint64_t tail, uint64_t out[4]);
@@ -105,7 +121,8 @@ uint32_t stocklog_entry(const uint8_t *log, size_t log_len, uint64_t tail, uint6
  * back, the nearest in the top 16 bits, 0 where there is none; with format 1 the nearest earlier entry's offset.
  * Refusals: 1, 2, 3 (offset not below the tail, or place not below the number of headers).
  */
-uint32_t stocklog_header(const uint8_t *log, size_t log_len, uint64_t tail, uint64_t offset, uint32_t place, uint64_t out[4]);
+uint32_t stocklog_header(
+    const uint8_t *log, size_t log_len, uint64_t tail, uint64_t offset, uint32_t place, uint64_t out[4]);
 
 /*
  * Where the items of the entry at an offset lie in the log's own bytes.
@@ -119,14 +136,17 @@ uint32_t stocklog_items(const uint8_t *log, size_t log_len, uint64_t tail, uint6
  * Done: out[0] 1, out[1] the entry's offset, out[2] the reader's next offset (one past it); or, at the end, 0, 0 and the tail.
  * Refused: 0, 0, from. Refusals: 1, 2, 3 (an object that is none of the eight, or from above the tail).
  */
-uint32_t stocklog_stream_next(const uint8_t *log, size_t log_len, uint64_t tail, uint32_t object, uint64_t from, uint64_t out[4]);
+uint32_t stocklog_stream_next(
+    const uint8_t *log, size_t log_len, uint64_t tail, uint32_t object, uint64_t from, uint64_t out[4]);
 
 /*
  * All offsets of an object's entries, ascending, into the start of list; the rest of the list is untouched.
  * Done: out[0] how many. Refused: the list is untouched. Refusals: 1, 2, 3 (an object that is none of the eight),
  * 13 (more offsets than list_len).
  */
-uint32_t stocklog_stream_list(const uint8_t *log, size_t log_len, uint64_t tail, uint32_t object, uint32_t *list, size_t list_len, uint64_t out[4]);
+uint32_t stocklog_stream_list(
+    const uint8_t *log, size_t log_len, uint64_t tail, uint32_t object, uint32_t *list, size_t list_len,
+    uint64_t out[4]);
 
 /* ---- Appending. Done: out[0] is the new tail, and exactly the 256 bytes of the slot at the old tail are written. ----
  * ---- Refused: no byte of the log is changed.                                                                     ---- */
@@ -136,27 +156,34 @@ uint32_t stocklog_stream_list(const uint8_t *log, size_t log_len, uint64_t tail,
  * commit record. Refusals: 1, 2, 3 (items_len not 16 times 1 to 12; a write's object, key, operation or value), 5 (the update
  * names over four objects), 4, 5 (its transaction does, with it), 9.
  */
-uint32_t stocklog_append_update(uint8_t *log, size_t log_len, uint64_t tail, uint32_t number, const uint8_t *items, size_t items_len, uint64_t out[4]);
+uint32_t stocklog_append_update(
+    uint8_t *log, size_t log_len, uint64_t tail, uint32_t number, const uint8_t *items, size_t items_len,
+    uint64_t out[4]);
 
 /*
  * A commit record with 0 to 12 reads: the transaction commits where every read's version is the cell's version there.
  * Refusals: 1, 2, 3 (number 0; reads_len not 16 times 0 to 12; a read's object or key; a version above the tail; reads not
  * strictly ascending), 4, 6, 9.
  */
-uint32_t stocklog_append_commit(uint8_t *log, size_t log_len, uint64_t tail, uint32_t number, const uint8_t *reads, size_t reads_len, uint64_t out[4]);
+uint32_t stocklog_append_commit(
+    uint8_t *log, size_t log_len, uint64_t tail, uint32_t number, const uint8_t *reads, size_t reads_len,
+    uint64_t out[4]);
 
 /*
  * A decision record: the outcome (STOCKLOG_COMMITTED or STOCKLOG_ABORTED) of the commit record at an offset. Whether it is true is
  * for the audit. Refusals: 1, 2, 3 (offset not below the tail, or another outcome), 7, 8, 9.
  */
-uint32_t stocklog_append_decision(uint8_t *log, size_t log_len, uint64_t tail, uint64_t offset, uint32_t outcome, uint64_t out[4]);
+uint32_t stocklog_append_decision(
+    uint8_t *log, size_t log_len, uint64_t tail, uint64_t offset, uint32_t outcome, uint64_t out[4]);
 
 /*
  * A checkpoint: every cell of one object that a replica at the tail has. The table is only read.
  * Refusals: 1, 2, 10, 3 (object none of the eight or not hosted; a cell of it, up to the count, whose key is over the highest or
  * whose version is not 1 to the tail), 14, 13 (over 12 cells), 9.
  */
-uint32_t stocklog_append_checkpoint(uint8_t *log, size_t log_len, uint64_t tail, uint8_t hosted, uint64_t position, uint64_t count, const uint8_t *table, size_t table_len, uint32_t object, uint64_t out[4]);
+uint32_t stocklog_append_checkpoint(
+    uint8_t *log, size_t log_len, uint64_t tail, uint8_t hosted, uint64_t position, uint64_t count,
+    const uint8_t *table, size_t table_len, uint32_t object, uint64_t out[4]);
 
 /* ---- Replicas. Where a call answers a record, out[0] is the hosted set, out[1] the position, out[2] the count of cells. ---- */
 
@@ -168,7 +195,9 @@ uint32_t stocklog_open_fresh(uint8_t hosted, uint64_t out[4]);
  * Done: the record; its cells are written to the start of the table. Refused: 0, 0, 0, and the table is unchanged.
  * Refusals: 1, 2, 3 (offset not below the tail, or no checkpoint there), 13 (more cells than the table's capacity).
  */
-uint32_t stocklog_open_checkpoint(const uint8_t *log, size_t log_len, uint64_t tail, uint64_t offset, uint8_t *table, size_t table_len, uint64_t out[4]);
+uint32_t stocklog_open_checkpoint(
+    const uint8_t *log, size_t log_len, uint64_t tail, uint64_t offset, uint8_t *table, size_t table_len,
+    uint64_t out[4]);
 
 /*
  * Plays a replica from its position to a stop. Whatever the answer, out has the record to go on with.
@@ -177,14 +206,18 @@ uint32_t stocklog_open_checkpoint(const uint8_t *log, size_t log_len, uint64_t t
  * was given, the table unchanged. Refusals: 1, 2, 10, 3 (stop above the tail, or below the position), then at an entry 12
  * before 13. 13 tells no offset here: it is the record's position.
  */
-uint32_t stocklog_play(const uint8_t *log, size_t log_len, uint64_t tail, uint8_t hosted, uint64_t position, uint64_t count, uint8_t *table, size_t table_len, uint64_t stop, uint64_t out[4]);
+uint32_t stocklog_play(
+    const uint8_t *log, size_t log_len, uint64_t tail, uint8_t hosted, uint64_t position, uint64_t count,
+    uint8_t *table, size_t table_len, uint64_t stop, uint64_t out[4]);
 
 /*
  * What a replica shows for a cell.
  * Done: out[0] STOCKLOG_NEVER_WRITTEN, and 0, 0; or STOCKLOG_HOLDS, the value and the version; or STOCKLOG_REMOVED, 0 and the
  * version. Refusals: 10 (there is no tail, so the position is not tested), 3 (object not hosted, or key over its highest).
  */
-uint32_t stocklog_read_cell(uint8_t hosted, uint64_t position, uint64_t count, const uint8_t *table, size_t table_len, uint32_t object, uint32_t key, uint64_t out[4]);
+uint32_t stocklog_read_cell(
+    uint8_t hosted, uint64_t position, uint64_t count, const uint8_t *table, size_t table_len,
+    uint32_t object, uint32_t key, uint64_t out[4]);
 
 /*
  * The audit: plays every object from offset 0 over a scratch table, and compares each decision and each checkpoint with the play.
@@ -192,7 +225,8 @@ uint32_t stocklog_read_cell(uint8_t hosted, uint64_t position, uint64_t count, c
  * lowest decision or checkpoint that is not as played. 13: the record at the entry that has no room, whose offset out[3] tells
  * too; the scratch shows all entries below it. 1, 2: 0, 0, 0, the scratch unchanged. Refusals: 1, 2, 13, 11.
  */
-uint32_t stocklog_audit(const uint8_t *log, size_t log_len, uint64_t tail, uint8_t *scratch, size_t scratch_len, uint64_t out[4]);
+uint32_t stocklog_audit(
+    const uint8_t *log, size_t log_len, uint64_t tail, uint8_t *scratch, size_t scratch_len, uint64_t out[4]);
 
 #ifdef __cplusplus
 }
