@@ -11,6 +11,7 @@ pub mod broken;
 pub mod bytes;
 pub mod cases;
 pub mod earlier;
+pub mod forms;
 pub mod log;
 pub mod objects;
 pub mod playing;
