@@ -64,7 +64,29 @@ fn slots(random: &mut Random) -> usize {
     slots as usize
 }
 
-fn mix(random: &mut Random) -> Mix {
+/// Strides of transaction numbers, for tables that a library may keep by their low or high bits.
+const STRIDES: [u32; 10] = [
+    1,
+    1,
+    1,
+    7,
+    256,
+    1 << 12,
+    1 << 16,
+    1 << 17,
+    1 << 24,
+    0x0101_0101,
+];
+
+pub fn mix(random: &mut Random) -> Mix {
+    let mix = kind(random);
+    Mix {
+        stride: random.pick(&STRIDES).unwrap_or(1),
+        ..mix
+    }
+}
+
+fn kind(random: &mut Random) -> Mix {
     match random.below(8) {
         0..=1 => Mix::true_records(),
         2 => Mix::crowded(),
