@@ -47,6 +47,8 @@ for edit in "$here"/mutants/*.edit; do
     run "$room/wrong.a" >"$room/said" 2>&1 || status=$?
     if [ "$status" -eq 1 ] && grep -q '^DIFFERENCE' "$room/said"; then
         echo "$name: found, $(grep '^DIFFERENCE' "$room/said" | cut -d ' ' -f 3-)"
+    elif [ "$status" -gt 128 ]; then
+        echo "$name: found, the run was ended by signal $((status - 128))"
     else
         echo "$name: NOT FOUND (exit status $status)"
         missed=$((missed + 1))

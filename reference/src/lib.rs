@@ -14,6 +14,7 @@ pub mod bytes;
 pub mod cases;
 pub mod earlier;
 pub mod examples;
+pub mod forms;
 pub mod log;
 pub mod objects;
 pub mod playing;

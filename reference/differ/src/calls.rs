@@ -3,8 +3,9 @@
 use reference::append::Request;
 use reference::boundary::{self, Said};
 use reference::replica::Record;
+use reference::slot::{MOST_SLOTS, SLOT};
 
-use crate::guarded::{Bytes, Out, Words};
+use crate::guarded::{Lent, Out};
 use crate::library::*;
 
 /// The arguments after log and tail. What a call may write is in it, as it is before the call.
@@ -203,32 +204,30 @@ pub fn by_reference(log: &mut [u8], tail: u64, call: &mut Call) -> Said {
     }
 }
 
-/// The call as the library made it, with all that it was lent.
-pub struct ByLibrary {
+/// The library, with the memory that is lent to it, and its last call.
+pub struct Library {
     number: u32,
     out: Out,
     out_length: usize,
-    log: Bytes,
+    log: Lent<u8>,
     /// Table, scratch, items or reads.
-    bytes: Bytes,
-    list: Words,
+    bytes: Lent<u8>,
+    list: Lent<u32>,
+    calls: u64,
 }
 
-/// The library's answer.
-pub fn by_library(log: &[u8], tail: u64, call: &Call) -> ByLibrary {
-    let mut lent = ByLibrary {
-        number: 0,
-        out: Out::new(),
-        out_length: call.out_length(),
-        log: Bytes::of(log),
-        bytes: Bytes::of(lent_bytes(call)),
-        list: Words::of(match call {
-            Call::StreamList { list, .. } => list,
-            _ => &[],
-        }),
-    };
-    lent.number = made(&mut lent, tail, call);
-    lent
+impl Default for Library {
+    fn default() -> Library {
+        Library {
+            number: 0,
+            out: Out::new(),
+            out_length: 0,
+            log: Lent::new((MOST_SLOTS + 1) * SLOT, 0xC7),
+            bytes: Lent::new(1 << 23, 0xC7),
+            list: Lent::new(1 << 18, 0xC7C7_C7C7),
+            calls: 0,
+        }
+    }
 }
 
 /// The bytes lent beside the log.
@@ -245,11 +244,20 @@ fn lent_bytes(call: &Call) -> &[u8] {
     }
 }
 
-fn made(lent: &mut ByLibrary, tail: u64, call: &Call) -> u32 {
-    let (log, log_len) = lent.log.lend();
-    let (bytes, bytes_len) = lent.bytes.lend();
-    let (list, list_len) = lent.list.lend();
-    let out = lent.out.lend();
+/// The numbers lent.
+fn lent_list(call: &Call) -> &[u32] {
+    match call {
+        Call::StreamList { list, .. } => list,
+        _ => &[],
+    }
+}
+
+fn made(library: &mut Library, bytes_of_log: &[u8], tail: u64, call: &Call) -> u32 {
+    let closed = library.calls.is_multiple_of(2);
+    let (log, log_len) = library.log.lend(bytes_of_log, closed);
+    let (bytes, bytes_len) = library.bytes.lend(lent_bytes(call), closed);
+    let (list, list_len) = library.list.lend(lent_list(call), closed);
+    let out = library.out.lend();
     // Every pointer is to memory of the length beside it, which nobody else uses during the call.
     unsafe {
         match call {
@@ -323,9 +331,17 @@ fn made(lent: &mut ByLibrary, tail: u64, call: &Call) -> u32 {
     }
 }
 
-impl ByLibrary {
+impl Library {
+    /// Makes a call.
+    pub fn call(&mut self, log: &[u8], tail: u64, call: &Call) {
+        self.calls += 1;
+        self.out = Out::new();
+        self.out_length = call.out_length();
+        self.number = made(self, log, tail, call);
+    }
+
     /// What is other than the second implementation says and leaves.
-    pub fn difference(&self, said: &Said, log: &[u8], after: &Call) -> Option<String> {
+    pub fn difference(&mut self, said: &Said, log: &[u8], after: &Call) -> Option<String> {
         let out = self.out.numbers(self.out_length);
         let due = &said.out[..self.out_length];
         if self.number != said.number || out != due {
@@ -337,16 +353,10 @@ impl ByLibrary {
         if !self.out.kept_inside(self.out_length) {
             return Some("the library wrote outside out".to_string());
         }
-        let list: &[u32] = match after {
-            Call::StreamList { list, .. } => list,
-            _ => &[],
-        };
+        let bytes = lent_bytes(after);
         self.log
             .difference("log", log)
-            .or_else(|| {
-                self.bytes
-                    .difference("table, scratch or items", lent_bytes(after))
-            })
-            .or_else(|| self.list.difference("list", list))
+            .or_else(|| self.bytes.difference("table, scratch or items", bytes))
+            .or_else(|| self.list.difference("list", lent_list(after)))
     }
 }

@@ -3,7 +3,7 @@
 use reference::bytes::{get32, put16, put32, put64};
 use reference::log::pass;
 use reference::objects::ids;
-use reference::random::{damage, edge, junk, History, Mix, Random};
+use reference::random::{damage, edge, junk, History, Random};
 use reference::sample::{put, read, remove};
 use reference::slot::{
     slot_at, write_slot, Header, Kind, Saved, Verdict, HEADER, HEADERS_AT, ITEM, ITEMS_AT, SLOT,
@@ -11,6 +11,7 @@ use reference::slot::{
 
 use crate::arguments::{self, Seen};
 use crate::calls::NAMES;
+use crate::histories::mix;
 use crate::pair::{Difference, Pair};
 
 /// One damaged log, with all calls that are made on it.
@@ -47,11 +48,7 @@ fn grown(random: &mut Random, seed: u64) -> (Vec<u8>, Seen) {
         18 => 24 + random.below(24),
         _ => 48 + random.below(30),
     };
-    let mix = match random.below(4) {
-        0 => Mix::true_records(),
-        1 => Mix::crowded(),
-        _ => Mix::rough(),
-    };
+    let mix = mix(random);
     let appends = slots - random.below(slots / 3 + 1);
     let history = History::made(seed, slots as usize, appends as usize, mix);
     let seen = Seen {

@@ -8,6 +8,7 @@ use reference::random::{History, Mix, Random};
 use reference::replica::Record;
 use reference::sample::{put, update};
 use reference::slot::{slot_at, MOST_SLOTS, SLOT};
+use reference::table::{put_row, Row, CELL};
 
 use crate::arguments::{self, Seen};
 use crate::calls::Call;
@@ -177,6 +178,61 @@ fn damaged(
             }
         }
         pair.call(&mut copy, seen.tail, &mut Call::Check)?;
+    }
+    Ok(())
+}
+
+/// Tables of more rows than there are cells, full of repeated cells.
+pub fn large_tables(pair: &mut Pair, seed: u64) -> Result<(), Difference> {
+    pair.begin("large tables", seed);
+    let mut random = Random::new(seed ^ 0x5EED_0004);
+    let history = History::made(seed, 60, 60, Mix::rough());
+    let tail = history.writer.tail as u64;
+    let mut log = history.writer.log;
+    for count in [3, 70_000] {
+        let mut table = vec![0; 70_001 * CELL];
+        for place in 0..70_000 {
+            let object = 1 + random.below(8) as u32;
+            let key = arguments::key(&mut random, object, 9_000);
+            let version = random.below(tail + 1);
+            put_row(&mut table, place, Row::of(object, key, Some(7), version));
+        }
+        for stop in [tail / 2, tail] {
+            let record = Record {
+                hosted: 0xFF,
+                position: 0,
+                count,
+            };
+            let table = table.clone();
+            let mut call = Call::Play {
+                record,
+                table,
+                stop,
+            };
+            pair.call(&mut log, tail, &mut call)?;
+        }
+        for object in [1, 4, 7] {
+            let record = Record {
+                hosted: 0xFF,
+                position: tail,
+                count,
+            };
+            let mut call = Call::ReadCell {
+                record,
+                table: table.clone(),
+                object,
+                key: 0,
+            };
+            pair.call(&mut log, tail, &mut call)?;
+            let mut copy = log.clone();
+            let mut call = Call::Append(Request::Checkpoint {
+                record,
+                table: table.clone(),
+                object,
+            });
+            pair.call(&mut copy, tail, &mut call)?;
+        }
+        pair.call(&mut log, tail, &mut Call::Audit { scratch: table })?;
     }
     Ok(())
 }

@@ -54,16 +54,39 @@ pub fn history(pair: &mut Pair, seed: u64) -> Result<(), Difference> {
 
 /// Few slots mostly, so that logs are full soon.
 fn slots(random: &mut Random) -> usize {
-    let slots = match random.below(100) {
-        0..=24 => random.below(9),
-        25..=84 => 9 + random.below(18),
-        85..=98 => 27 + random.below(28),
-        _ => 55 + random.below(70),
+    let slots = match random.below(1000) {
+        0..=249 => random.below(9),
+        250..=849 => 9 + random.below(18),
+        850..=989 => 27 + random.below(28),
+        990..=998 => 55 + random.below(70),
+        _ => 150 + random.below(250),
     };
     slots as usize
 }
 
-fn mix(random: &mut Random) -> Mix {
+/// Strides of transaction numbers, for tables that a library may keep by their low or high bits.
+const STRIDES: [u32; 10] = [
+    1,
+    1,
+    1,
+    7,
+    256,
+    1 << 12,
+    1 << 16,
+    1 << 17,
+    1 << 24,
+    0x0101_0101,
+];
+
+pub fn mix(random: &mut Random) -> Mix {
+    let mix = kind(random);
+    Mix {
+        stride: random.pick(&STRIDES).unwrap_or(1),
+        ..mix
+    }
+}
+
+fn kind(random: &mut Random) -> Mix {
     match random.below(8) {
         0..=1 => Mix::true_records(),
         2 => Mix::crowded(),

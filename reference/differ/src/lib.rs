@@ -9,4 +9,7 @@ pub mod far;
 pub mod guarded;
 pub mod histories;
 pub mod library;
+pub mod measure;
 pub mod pair;
+pub mod plot;
+pub mod workload;

@@ -4,7 +4,7 @@ use std::fs;
 
 use reference::boundary::Said;
 
-use crate::calls::{by_library, by_reference, Call};
+use crate::calls::{by_reference, Call, Library};
 use crate::cover::Cover;
 
 /// A difference, with all that is needed to see it again.
@@ -17,6 +17,7 @@ pub struct Pair {
     pub cover: Cover,
     /// Prints each call before it is made.
     pub trace: bool,
+    library: Library,
     part: &'static str,
     seed: u64,
     calls: u64,
@@ -27,6 +28,7 @@ impl Pair {
         Pair {
             cover: Cover::default(),
             trace,
+            library: Library::default(),
             part: "",
             seed: 0,
             calls: 0,
@@ -47,9 +49,9 @@ impl Pair {
             eprintln!("{}", self.place(log, tail, call));
         }
         let before = ((log.len() <= KEPT).then(|| log.to_vec()), call.clone());
-        let library = by_library(log, tail, call);
+        self.library.call(log, tail, call);
         let said = by_reference(log, tail, call);
-        if let Some(text) = library.difference(&said, log, call) {
+        if let Some(text) = self.library.difference(&said, log, call) {
             let kept = before.0.map_or(String::new(), |bytes| self.keep(&bytes));
             let place = self.place(log, tail, &before.1);
             return Err(Difference(format!("{place}\n{text}\n{kept}")));

@@ -8,10 +8,11 @@
 //! made.
 
 use std::process::ExitCode;
+use std::thread;
 use std::time::Instant;
 
 use differ::damaged::damaged;
-use differ::far::{far, most_slots};
+use differ::far::{far, large_tables, most_slots};
 use differ::histories::history;
 use differ::pair::{Difference, Pair};
 
@@ -86,11 +87,21 @@ fn all(pair: &mut Pair, options: &Options) -> Result<(), Difference> {
     part(pair, "histories", options.seed, options.histories, history)?;
     part(pair, "damaged logs", options.seed, options.damaged, damaged)?;
     part(pair, "far logs", options.seed, options.far, far)?;
+    part(
+        pair,
+        "large tables",
+        options.seed,
+        options.far,
+        large_tables,
+    )?;
     if options.far > 0 {
         most_slots(pair)?;
     }
     Ok(())
 }
+
+/// What `stocklog.h` says is enough for any call (STOCKLOG_STACK), and some for this program.
+const STACK: usize = 2_097_152 + 262_144;
 
 fn main() -> ExitCode {
     let options = match options() {
@@ -100,8 +111,19 @@ fn main() -> ExitCode {
             return ExitCode::from(2);
         }
     };
+    let run = thread::Builder::new()
+        .stack_size(STACK)
+        .spawn(move || run(&options));
+    match run.map(thread::JoinHandle::join) {
+        Ok(Ok(status)) => status,
+        _ => ExitCode::from(3),
+    }
+}
+
+/// The whole run, and its exit status.
+fn run(options: &Options) -> ExitCode {
     let mut pair = Pair::new(options.trace);
-    if let Err(Difference(text)) = all(&mut pair, &options) {
+    if let Err(Difference(text)) = all(&mut pair, options) {
         eprintln!("DIFFERENCE in {text}");
         return ExitCode::from(1);
     }
