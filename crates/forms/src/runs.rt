@@ -15,7 +15,7 @@ fn play(log: &[u8], tail: u32, r: Record, table: &mut [u8], stop: u64) -> Record
         Checked::Refused(x) => crate::print::refusal(x),
     }
     crate::print::record(left);
-    crate::print::line_end();
+    printing::line_end();
     left
 }
 
@@ -41,10 +41,10 @@ fn dump(table: &[u8]) {
     let n = table.len() / 4;
     let mut k = 0;
     while k < n {
-        crate::print::next(crate::print::wide(codec::bytes::be32(table, 4 * k)));
+        printing::next(printing::wide(codec::bytes::be32(table, 4 * k)));
         k += 1;
     }
-    crate::print::line_end();
+    printing::line_end();
 }
 
 // The record at a place.
@@ -67,7 +67,7 @@ fn instalments(input: &[u8], at: usize, log: &[u8], table: &mut [u8]) -> usize {
     let left = plays(input, third, n, log, table, r);
     io::write_all(1, b"left");
     crate::print::record(left);
-    crate::print::line_end();
+    printing::line_end();
     dump(table);
     if input.len() / 12 < n {
         return input.len();

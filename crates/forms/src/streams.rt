@@ -6,7 +6,7 @@ use entries::reader::NextEntry;
 fn shown(a: NextEntry) -> bool {
     match a {
         NextEntry::At(o) => {
-            crate::print::next(o.0);
+            printing::next(o.0);
             true
         }
         NextEntry::End => {
@@ -23,8 +23,8 @@ fn shown(a: NextEntry) -> bool {
 // A reader from an offset to its end or a refusal, at most 64 calls, and its next offset.
 fn stream(log: &[u8], tail: usize, x: u32, from: u64) {
     io::write_all(1, b"stream");
-    crate::print::next(crate::print::wide(x));
-    crate::print::next(from);
+    printing::next(printing::wide(x));
+    printing::next(from);
     let mut at = from;
     let mut left = 64u64;
     while 0 < left {
@@ -37,8 +37,8 @@ fn stream(log: &[u8], tail: usize, x: u32, from: u64) {
             left = 0;
         }
     }
-    crate::print::next(at);
-    crate::print::line_end();
+    printing::next(at);
+    printing::line_end();
 }
 
 // From 0, the middle, the tail and the offset after it.

@@ -8,9 +8,9 @@ use Rattle.forms.proofs.runs.dump.Tie as tie
 use Rattle.forms.proofs.runs.dump.Reads as reads
 use Rattle.forms.proofs.runs.dump.Lts as lts
 use Rattle.codec.proofs.bytes.be32.Reads as be32-reads
-use Rattle.forms.proofs.print.line_end.Reads as line-end-reads
-use Rattle.forms.proofs.print.next.Reads as next-reads
-use Rattle.forms.proofs.print.wide.Reads as wide-reads
+use Rattle.printing.proofs.line_end.Reads as line-end-reads
+use Rattle.printing.proofs.next.Reads as next-reads
+use Rattle.printing.proofs.wide.Reads as wide-reads
 use Rattle.io.proofs.write_all.Reads as write-all-reads
 
 abbrev Inv-loop : tie.InvT-loop

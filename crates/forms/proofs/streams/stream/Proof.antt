@@ -6,9 +6,9 @@ use Rattle.forms.proofs.streams.stream.Statement.{statement}
 use Rattle.forms.proofs.streams.stream.Tie as tie
 use Rattle.forms.proofs.streams.stream.Reads as reads
 use Rattle.forms.proofs.streams.stream.Lts as lts
-use Rattle.forms.proofs.print.line_end.Reads as line-end-reads
-use Rattle.forms.proofs.print.next.Reads as next-reads
-use Rattle.forms.proofs.print.wide.Reads as wide-reads
+use Rattle.printing.proofs.line_end.Reads as line-end-reads
+use Rattle.printing.proofs.next.Reads as next-reads
+use Rattle.printing.proofs.wide.Reads as wide-reads
 use Rattle.forms.proofs.streams.shown.Reads as shown-reads
 use Rattle.io.proofs.write_all.Reads as write-all-reads
 use Rattle.reader.proofs.next_from.Reads as next-from-reads
