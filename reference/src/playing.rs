@@ -1,5 +1,6 @@
 //! Stored vectors of opening fresh, play and cell reading: a log, a table and a record, the requests made on them one
-//! after the other, and what must come of each. The format stands at the head of `src/bin/vectors.rs`.
+//! after the other, and what must come of each. The format stands at the head of `src/bin/vectors.rs`. `auditing` has
+//! those with openings at a checkpoint and audits.
 
 pub mod histories;
 pub mod outcomes;
@@ -11,7 +12,8 @@ pub mod worked;
 use std::fmt::Write;
 
 use crate::answer::Answer;
-use crate::replica::{open_fresh, play, read_cell, Record};
+use crate::audit::audit;
+use crate::replica::{open_at, open_fresh, play, read_cell, Record};
 use crate::table::{put_row, Cell, Row};
 
 /// One request.
@@ -20,6 +22,8 @@ pub enum Request {
     Open { hosted: u8 },
     Play { tail: u32, stop: u64 },
     Cell { object: u32, key: u32 },
+    OpenAt { tail: u32, offset: u64 },
+    Audit { tail: u32 },
 }
 
 /// What a request answers.
@@ -29,6 +33,10 @@ pub enum Said {
     /// The record is as it was left.
     Played(Answer<()>, Record),
     Read(Answer<Cell>),
+    /// At a checkpoint.
+    Restored(Answer<Record>),
+    /// The record is as it was left.
+    Audited(Answer<()>, Record),
 }
 
 /// What comes of a case.
@@ -68,6 +76,16 @@ impl Case {
                 }
                 Request::Cell { object, key } => {
                     Said::Read(read_cell(&record, &table, object, key))
+                }
+                Request::OpenAt { tail, offset } => {
+                    let answer = open_at(&self.log, tail as usize, offset, &mut table);
+                    record = answer.done().unwrap_or(record);
+                    Said::Restored(answer)
+                }
+                Request::Audit { tail } => {
+                    let (answer, left) = audit(&self.log, tail as usize, &mut table);
+                    record = left;
+                    Said::Audited(answer, left)
                 }
             });
         }
@@ -178,6 +196,49 @@ impl Asking {
         self.ask(Request::Play { tail, stop }, said);
     }
 
+    /// An opening at a checkpoint that is done.
+    pub fn restores(&mut self, tail: u32, offset: u64, hosted: u8, count: u64) {
+        self.record = record(hosted, offset + 1, count);
+        let said = Said::Restored(Answer::Done(self.record));
+        self.ask(Request::OpenAt { tail, offset }, said);
+    }
+
+    /// One that is refused, with the record as it was; 2 tells an offset.
+    pub fn restores_not(&mut self, tail: u32, offset: u64, number: u32, at: Option<u64>) {
+        let refusal = Answer::Refused { number, offset: at };
+        self.ask(Request::OpenAt { tail, offset }, Said::Restored(refusal));
+    }
+
+    /// An audit that passes, with so many cells counted.
+    pub fn audits(&mut self, tail: u32, count: u64) {
+        self.record = record(0xFF, u64::from(tail), count);
+        let said = Said::Audited(Answer::Done(()), self.record);
+        self.ask(Request::Audit { tail }, said);
+    }
+
+    /// An audit that finds a false record, with the table as played to the tail.
+    pub fn finds(&mut self, tail: u32, at: u64, count: u64) {
+        self.record = record(0xFF, u64::from(tail), count);
+        self.audited(tail, crate::answer::FALSE_RECORD, Some(at));
+    }
+
+    /// An audit that lacks room at an entry.
+    pub fn lacks(&mut self, tail: u32, at: u64, count: u64) {
+        self.record = record(0xFF, at, count);
+        self.audited(tail, crate::answer::NO_ROOM, Some(at));
+    }
+
+    /// An audit that is refused by the log, with the record 0, 0, 0; 2 tells an offset.
+    pub fn audits_not(&mut self, tail: u32, number: u32, at: Option<u64>) {
+        self.record = record(0, 0, 0);
+        self.audited(tail, number, at);
+    }
+
+    fn audited(&mut self, tail: u32, number: u32, offset: Option<u64>) {
+        let said = Said::Audited(Answer::Refused { number, offset }, self.record);
+        self.ask(Request::Audit { tail }, said);
+    }
+
     pub fn holds(&mut self, object: u32, key: u32, value: u32, version: u64) {
         self.reads(object, key, Answer::Done(Cell::Holds { value, version }));
     }
@@ -265,6 +326,15 @@ pub fn request_bytes(request: &Request) -> Vec<u8> {
             bytes.extend(object.to_be_bytes());
             bytes.extend(key.to_be_bytes());
         }
+        Request::OpenAt { tail, offset } => {
+            bytes.extend(4_u32.to_be_bytes());
+            bytes.extend(tail.to_be_bytes());
+            bytes.extend(offset.to_be_bytes());
+        }
+        Request::Audit { tail } => {
+            bytes.extend(5_u32.to_be_bytes());
+            bytes.extend(tail.to_be_bytes());
+        }
     }
     bytes
 }
@@ -296,17 +366,30 @@ fn print_case(text: &mut String, case: &Case) {
                 };
                 writeln!(text, "cell {object} {key} {}", answer.shown(cell_shown))
             }
+            Said::Restored(answer) => {
+                let shown = answer.shown(|record| format!("done {}", record_shown(record)));
+                writeln!(text, "restore {shown}")
+            }
+            Said::Audited(answer, left) => {
+                let shown = answer.shown(|()| "done".to_string());
+                writeln!(text, "audit {shown} {}", record_shown(left))
+            }
         };
     }
-    text.push_str("table");
-    for word in table.chunks_exact(4) {
+    let _ = writeln!(text, "table{}", words(&table));
+}
+
+/// After a space each, the bytes as 4-byte words.
+pub fn words(bytes: &[u8]) -> String {
+    let mut text = String::new();
+    for word in bytes.chunks_exact(4) {
         let word = u32::from_be_bytes([word[0], word[1], word[2], word[3]]);
         let _ = write!(text, " {word}");
     }
-    text.push('\n');
+    text
 }
 
-fn record_shown(record: Record) -> String {
+pub fn record_shown(record: Record) -> String {
     format!("{} {} {}", record.hosted, record.position, record.count)
 }
 

@@ -44,7 +44,7 @@ play-hosting sh log r table stop = go (playRefusal sh log r table stop)
     go none = left-hosting (r .hosting) stop table (playFrom sh log r table stop)
     go (some x) = refl
 
-plays-hosting : (sh : Shape) (h : History) (r : Carried) (ps : List Play) → plays sh h r ps .replica .hosting ≡ r .replica .hosting
+pub plays-hosting : (sh : Shape) (h : History) (r : Carried) (ps : List Play) → plays sh h r ps .replica .hosting ≡ r .replica .hosting
 unfolding plays
 plays-hosting sh h r [] = refl
 plays-hosting sh h r (p ∷ ps) =

@@ -1,0 +1,183 @@
+// One call on a replica or an audit, and its answer printed.
+use codec::names::ObjectId;
+use entries::calls::Checked;
+use records::Record;
+use replica::cells::Reading;
+use replica::opening::Opened;
+use replica::playing::Left;
+use table::rows::Content;
+use table::rows::Held;
+
+// The place after a request, and the record that it left.
+pub struct Stand {
+    pub at: usize,
+    pub record: Record,
+}
+
+fn byte(n: u8) -> u64 {
+    n as u64
+}
+
+// The lowest byte of a number.
+pub fn low(n: u32) -> u8 {
+    (n % 256) as u8
+}
+
+// The three numbers of a record.
+fn record(r: Record) {
+    printing::next(byte(r.hosted));
+    printing::next(r.position);
+    printing::next(r.count);
+}
+
+fn open(r: Record, hosted: u8) -> Record {
+    io::write_all(1, b"open ");
+    let o = replica::opening::open_fresh(hosted);
+    match o {
+        Opened::Replica(x) => {
+            io::write_all(1, b"done");
+            record(x);
+            printing::line_end();
+            x
+        }
+        Opened::Refused(x) => {
+            printing::refusal(x);
+            printing::line_end();
+            r
+        }
+    }
+}
+
+// An answer, and the record as it was left.
+fn left(l: Left) -> Record {
+    let a = l.answer;
+    let r = l.record;
+    match a {
+        Checked::Done => {
+            io::write_all(1, b"done");
+        }
+        Checked::Refused(x) => printing::refusal(x),
+    }
+    record(r);
+    printing::line_end();
+    r
+}
+
+fn play(log: &[u8], tail: usize, r: Record, table: &mut [u8], stop: u64) -> Record {
+    io::write_all(1, b"play ");
+    left(replica::playing::play(log, tail, r, table, stop))
+}
+
+fn audit(log: &[u8], tail: usize, table: &mut [u8]) -> Record {
+    io::write_all(1, b"audit ");
+    left(audit::audit(log, tail, table))
+}
+
+// An opening at a checkpoint; refused, the record stays.
+fn restore(log: &[u8], tail: usize, o: u64, r: Record, table: &mut [u8]) -> Record {
+    io::write_all(1, b"restore ");
+    let l = replica::restoring::open_at(log, tail, o, table);
+    let a = l.answer;
+    let opened = l.record;
+    match a {
+        Checked::Done => {
+            io::write_all(1, b"done");
+            record(opened);
+            printing::line_end();
+            opened
+        }
+        Checked::Refused(x) => {
+            printing::refusal(x);
+            printing::line_end();
+            r
+        }
+    }
+}
+
+fn content(c: Content) {
+    let v = c.version;
+    if c.removed {
+        io::write_all(1, b" removed");
+        printing::next(v.0);
+        return;
+    }
+    io::write_all(1, b" value");
+    printing::next(printing::wide(c.value));
+    printing::next(v.0);
+}
+
+fn held(h: Held) {
+    match h {
+        Held::Never => {
+            io::write_all(1, b" never");
+        }
+        Held::Written(c) => content(c),
+    }
+}
+
+fn cell(r: Record, table: &[u8], id: u32, key: u32) {
+    io::write_all(1, b"cell");
+    printing::next(printing::wide(id));
+    printing::next(printing::wide(key));
+    let c = replica::cells::read_cell(r, table, ObjectId(id), key);
+    match c {
+        Reading::Cell(h) => held(h),
+        Reading::Refused(x) => {
+            io::write_all(1, b" ");
+            printing::refusal(x);
+        }
+    }
+    printing::line_end();
+}
+
+// A request with a tail and a number of 8 bytes at a place: a play, or an opening at a checkpoint.
+fn long_request(
+    input: &[u8],
+    at: usize,
+    kind: u32,
+    tail: usize,
+    log: &[u8],
+    table: &mut [u8],
+    r: Record,
+) -> Stand {
+    let n = crate::input::long(input, at);
+    let next = crate::input::after(input, at, 8);
+    if kind == 2 {
+        return Stand {
+            at: next,
+            record: play(log, tail, r, table, n),
+        };
+    }
+    Stand {
+        at: next,
+        record: restore(log, tail, n, r, table),
+    }
+}
+
+// The request at a place of the input.
+pub fn request(input: &[u8], at: usize, log: &[u8], table: &mut [u8], r: Record) -> Stand {
+    let kind = crate::input::word(input, at);
+    let first = crate::input::after(input, at, 4);
+    let a = crate::input::word(input, first);
+    let second = crate::input::after(input, first, 4);
+    if kind == 1 {
+        return Stand {
+            at: second,
+            record: open(r, low(a)),
+        };
+    }
+    if kind == 5 {
+        return Stand {
+            at: second,
+            record: audit(log, a as usize, table),
+        };
+    }
+    if kind == 3 {
+        cell(r, table, a, crate::input::word(input, second));
+        return Stand {
+            at: crate::input::after(input, second, 4),
+            record: r,
+        };
+    }
+    long_request(input, second, kind, a as usize, log, table, r)
+}

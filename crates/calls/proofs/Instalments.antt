@@ -1,0 +1,325 @@
+-- A play in instalments: wherever the first play stopped, it had reached that offset with those cells, and a play from there
+-- goes on as the whole one does. The table's bytes after the first are read back as its cells, since all of them fit their fields.
+use Prim.Native.Nat.{ℕ, zero, suc, _+_, _-_, _*_, _/_, _≤_, _<_, _^_}
+use mathlib.Core.Path.{_≡_, refl, ap, sym, _∙_, subst}
+use mathlib.Core.Bool.{Bool, true, false, cond}
+use mathlib.Core.List.{List, [], _∷_, _++_}
+use mathlib.Core.Option.{Option, none, some}
+use native.Mathlib.Omega.{arith}
+use borrow.Author.Tests.{ltb-false, le-ltb}
+use lib.Dec.{eqb, leb, ltb}
+use lib.ListN.{length}
+use Rattle.lists.specs.Tests.{ands, ors, clash, neither}
+use Rattle.lists.specs.Sets.{all, meets}
+use Rattle.model.specs.Objects.{depots, hosted}
+use Rattle.model.specs.Entries.{Write, Entry, plain, numbered, commit, decision, checkpoint, blank, Effect, effect, Log, writesOf, headerObjects}
+use Rattle.model.specs.Slot.{logIn}
+use Rattle.model.specs.Rules.{okWrite, okWrites, okEntry, lowestBad}
+use Rattle.model.specs.Table.{Cell, cellsOf, tableWith, capacity, apply}
+use Rattle.model.specs.Play.{Played, going, waits, lacks, cellsIn, versionAt, outcome, make, finish, act, step, andThen, play}
+use Rattle.model.specs.Answers.{Refusal, Answer, done, refused, refuse, firstOf, frameAndEntries, badFrame}
+use Rattle.model.specs.Append.{Replica, badRecord, badReplica}
+use Rattle.model.specs.Replica as model
+use Rattle.model.specs.Claims.{Bytes, inLog}
+use Rattle.records.specs.Record.{replicaIn}
+use Rattle.calls.specs.Claims.{leftOf, CallsInstalments}
+use Rattle.laws.proofs.Items.{fitsCell}
+use Rattle.laws.proofs.Tables.{length-cells, cells-back}
+use Rattle.laws.proofs.Slots.{Kept, writes-ok}
+use Rattle.laws.proofs.Appends.{good-kept}
+use Rattle.laws.proofs.Refusals.{all-pass, refuse-none, refuseAt-none}
+use Rattle.laws.proofs.Room.{play-fits, length-with}
+use Rattle.claims.proofs.Audits.{tail-small}
+use Rattle.table.specs.Stored.{cells-fit, table-again}
+use Rattle.player.specs.MakeLaws.{apply-fits}
+use Rattle.player.specs.PlayLaws.{step-grows}
+
+module _ (log : Log) (set : List ℕ) (room : ℕ) where
+  abbrev go-on : ℕ → List Cell → ℕ → Played
+  go-on p cs n = play log set room p cs n
+
+  -- ---- a play of n entries and then of m more
+
+  then-going : (x : Played) → andThen x (λ ds. going ds) ≡ x
+  then-going (going cs) = refl
+  then-going (waits q cs) = refl
+  then-going (lacks q cs) = refl
+
+  then-then : (x : Played) (f g : List Cell → Played) → andThen (andThen x f) g ≡ andThen x (λ ds. andThen (f ds) g)
+  then-then (going cs) f g = refl
+  then-then (waits q cs) f g = refl
+  then-then (lacks q cs) f g = refl
+
+  play-on : (p : ℕ) (cs : List Cell) (n m : ℕ) → go-on p cs (n + m) ≡ andThen (go-on p cs n) (λ ds. go-on (p + n) ds m)
+  unfolding play
+  play-on p cs n zero =
+      let e : n + zero ≡ n = omega arith in
+      ap (go-on p cs) e ∙ sym (then-going (go-on p cs n))
+  play-on p cs n (suc m) =
+      let e : n + suc m ≡ suc (n + m) = omega arith in
+      let f : p + (n + m) ≡ p + n + m = omega arith in
+      ap (go-on p cs) e
+      ∙ ap (λ (x : Played). andThen x (step log set room (p + (n + m)))) (play-on p cs n m)
+      ∙ then-then (go-on p cs n) (λ ds. go-on (p + n) ds m) (step log set room (p + (n + m)))
+      ∙ ap (λ (k : ℕ). andThen (go-on p cs n) (λ ds. andThen (go-on (p + n) ds m) (step log set room k))) f
+
+  play-grows : (p : ℕ) (cs : List Cell) (n : ℕ) → length cs ≤ length (cellsIn (go-on p cs n))
+  unfolding play
+  play-grows p cs zero = omega arith
+  play-grows p cs (suc n) = go (go-on p cs n) (play-grows p cs n)
+    where
+      go : (x : Played) → length cs ≤ length (cellsIn x) → length cs ≤ length (cellsIn (andThen x (step log set room (p + n))))
+      go (going ds) h = omega (arith, h, step-grows log set room (p + n) ds)
+      go (waits q ds) h = h
+      go (lacks q ds) h = h
+
+  -- ---- where a play stopped
+
+  -- the offset at which a play of n entries from p stands
+  abbrev standsAt : ℕ → Played → ℕ
+  standsAt e (going cs) = e
+  standsAt e (waits q cs) = q
+  standsAt e (lacks q cs) = q
+
+  -- a step that stops, stops at its entry with the cells as they were
+  abbrev Stays : ℕ → List Cell → Played → Type 0
+  Stays p cs (going ds) = Unit {0}
+  Stays p cs (waits q ds) = (q ≡ p) × (ds ≡ cs)
+  Stays p cs (lacks q ds) = (q ≡ p) × (ds ≡ cs)
+
+  make-stays : (p : ℕ) (ws : List Write) (cs : List Cell) → Stays p cs (make set room p ws cs)
+  make-stays p ws cs = go (leb (length (apply set (versionAt p) ws cs)) room)
+    where
+      go : (b : Bool) → Stays p cs (cond b (going (apply set (versionAt p) ws cs)) (lacks p cs))
+      go true = tt
+      go false = (refl, refl)
+
+  step-stays : (p : ℕ) (cs : List Cell) → Stays p cs (step log set room p cs)
+  unfolding step
+  step-stays p cs = go (meets set (headerObjects log p (log .entry p)))
+    where
+      by : (ws : List Write) (o : Option Bool) → Stays p cs (finish set room p ws cs o)
+      by ws none = (refl, refl)
+      by ws (some true) = make-stays p ws cs
+      by ws (some false) = tt
+
+      on : (e : Effect) → Stays p cs (act log set room p cs e)
+      on (Effect.writes ws) = make-stays p ws cs
+      on (Effect.aside n ws) = tt
+      on (Effect.tries n c) = by (writesOf log n p) (outcome log set p cs c)
+      on Effect.inert = tt
+
+      go : (b : Bool) → Stays p cs (cond b (act log set room p cs (effect (log .entry p))) (going cs))
+      go true = on (effect (log .entry p))
+      go false = tt
+
+  -- a play that stands at an offset reached it with its cells
+  pub record Reached (p : ℕ) (cs : List Cell) (n q : ℕ) (ds : List Cell) : Type 0 where
+    pub from : p ≤ q
+    pub to : q ≤ p + n
+    pub by : go-on p cs (q - p) ≡ going ds
+
+  play-reached : (p : ℕ) (cs : List Cell) (n : ℕ) → Reached p cs n (standsAt (p + n) (go-on p cs n)) (cellsIn (go-on p cs n))
+  unfolding play
+  play-reached p cs zero =
+      let e : p + zero - p ≡ zero = omega arith in
+      record { from = omega arith; to = omega arith; by = ap (go-on p cs) e }
+  play-reached p cs (suc n) = go (go-on p cs n) refl (play-reached p cs n)
+    where
+      stopped : (ds : List Cell) → go-on p cs n ≡ going ds → (x : Played) → step log set room (p + n) ds ≡ x → Stays (p + n) ds x
+          → Reached p cs (suc n) (standsAt (p + suc n) x) (cellsIn x)
+      stopped ds i (going es) e s =
+          let k : p + suc n - p ≡ suc n = omega arith in
+          record { from = omega arith; to = omega arith; by = ap (go-on p cs) k ∙ ap (λ (y : Played). andThen y (step log set room (p + n))) i ∙ e }
+      stopped ds i (waits q es) e (f, g) =
+          let k : q - p ≡ n = omega (arith, f) in
+          record { from = omega (arith, f); to = omega (arith, f); by = ap (go-on p cs) k ∙ i ∙ ap going (sym g) }
+      stopped ds i (lacks q es) e (f, g) =
+          let k : q - p ≡ n = omega (arith, f) in
+          record { from = omega (arith, f); to = omega (arith, f); by = ap (go-on p cs) k ∙ i ∙ ap going (sym g) }
+
+      go : (y : Played) → go-on p cs n ≡ y → Reached p cs n (standsAt (p + n) y) (cellsIn y)
+          → Reached p cs (suc n) (standsAt (p + suc n) (andThen y (step log set room (p + n)))) (cellsIn (andThen y (step log set room (p + n))))
+      go (going ds) i r = stopped ds i (step log set room (p + n) ds) refl (step-stays (p + n) ds)
+      go (waits q ds) i r = record { from = r .from; to = omega (arith, r .to); by = r .by }
+      go (lacks q ds) i r = record { from = r .from; to = omega (arith, r .to); by = r .by }
+
+  -- ---- the cells of a play fit their fields
+
+  module _ (kept : Kept depots log (log .tail)) (few : log .tail ≤ 131072) where
+    step-fit : (p : ℕ) (cs : List Cell) → p < log .tail → all fitsCell cs ≡ true → all fitsCell (cellsIn (step log set room p cs)) ≡ true
+    unfolding step okEntry okWrites
+    step-fit p cs l f = go (meets set (headerObjects log p (log .entry p)))
+      where
+        made : (ws : List Write) → all (okWrite depots) ws ≡ true → all fitsCell (cellsIn (make set room p ws cs)) ≡ true
+        made ws ok = by (leb (length (apply set (versionAt p) ws cs)) room)
+          where
+            by : (b : Bool) → all fitsCell (cellsIn (cond b (going (apply set (versionAt p) ws cs)) (lacks p cs))) ≡ true
+            by true = apply-fits set (versionAt p) (omega arith) ws ok cs f
+            by false = f
+
+        tried : (ws : List Write) → all (okWrite depots) ws ≡ true → (o : Option Bool) → all fitsCell (cellsIn (finish set room p ws cs o)) ≡ true
+        tried ws ok none = f
+        tried ws ok (some true) = made ws ok
+        tried ws ok (some false) = f
+
+        on : (e : Entry) → okEntry depots log p e ≡ true → all fitsCell (cellsIn (act log set room p cs (effect e))) ≡ true
+        on (plain ws) h = made ws (search ands)
+        on (numbered n ws) h = f
+        on (commit n c) h = tried (writesOf log n p) (writes-ok depots log n p (λ o m. kept o (omega arith))) (outcome log set p cs c)
+        on (decision o v) h = f
+        on (checkpoint o ds) h = f
+        on blank h = f
+
+        go : (b : Bool) → all fitsCell (cellsIn (cond b (act log set room p cs (effect (log .entry p))) (going cs))) ≡ true
+        go true = on (log .entry p) (kept p l)
+        go false = f
+
+    play-fit : (p : ℕ) (cs : List Cell) (n : ℕ) → p + n ≤ log .tail → all fitsCell cs ≡ true → all fitsCell (cellsIn (go-on p cs n)) ≡ true
+    unfolding play
+    play-fit p cs zero l f = f
+    play-fit p cs (suc n) l f = go (go-on p cs n) (play-fit p cs n (omega arith) f)
+      where
+        go : (x : Played) → all fitsCell (cellsIn x) ≡ true → all fitsCell (cellsIn (andThen x (step log set room (p + n)))) ≡ true
+        go (going ds) h = step-fit (p + n) ds (omega arith) h
+        go (waits q ds) h = h
+        go (lacks q ds) h = h
+
+-- ---- the call
+
+-- whether nothing refuses a play
+module _ (log : Log) where
+  abbrev tests : Replica → List ℕ → ℕ → List (Option Refusal)
+  tests r t stop = frameAndEntries depots log ++ (refuse 10 (badReplica (log .tail) r t) ∷ refuse 3 (model.badStop (log .tail) r stop) ∷ [])
+
+  -- a play that nothing refuses
+  runs : (r : Replica) (t : List ℕ) (stop : ℕ) → badFrame log ≡ false → lowestBad depots log ≡ none → badReplica (log .tail) r t ≡ false
+      → model.badStop (log .tail) r stop ≡ false → model.playCall depots log r t stop ≡ model.leftBy (r .hosting) stop t (model.playFrom depots log r t stop)
+  unfolding model.playCall
+  runs r t stop f g b c = rw (f, g, b, c)
+
+  -- one played on a table that another left
+  left-again : (set stop : ℕ) (t : List ℕ) (cs : List Cell) (x : Played) → length cs ≤ length (cellsIn x)
+      → model.leftBy set stop (tableWith t cs) x ≡ model.leftBy set stop t x
+  left-again set stop t cs (going ds) h = λ j. record { answer = done tt; replica = record { hosting = set; position = stop; count = length ds }; table = table-again t cs ds h j }
+  left-again set stop t cs (waits q ds) h =
+      λ j. record { answer = model.plainly 12; replica = record { hosting = set; position = q; count = length ds }; table = table-again t cs ds h j }
+  left-again set stop t cs (lacks q ds) h =
+      λ j. record { answer = model.plainly 13; replica = record { hosting = set; position = q; count = length ds }; table = table-again t cs ds h j }
+
+  -- a first play that nothing refused, as it stands at q with the cells cs
+  left-at : (set stop : ℕ) (t : List ℕ) (x : Played) → model.leftBy set stop t x .replica ≡ record { hosting = set; position = standsAt log [] 0 stop x; count = length (cellsIn x) }
+  left-at set stop t (going cs) = refl
+  left-at set stop t (waits q cs) = refl
+  left-at set stop t (lacks q cs) = refl
+
+  left-table : (set stop : ℕ) (t : List ℕ) (x : Played) → model.leftBy set stop t x .table ≡ tableWith t (cellsIn x)
+  left-table set stop t (going cs) = refl
+  left-table set stop t (waits q cs) = refl
+  left-table set stop t (lacks q cs) = refl
+
+  module _ (r : Replica) (t : List ℕ) (bytes : Bytes t) (a b : ℕ) (l : a ≤ b) (m : b ≤ log .tail) where
+    abbrev set : List ℕ
+    set = hosted depots (r .hosting)
+
+    abbrev first : Played
+    first = model.playFrom depots log r t a
+
+    -- the offset and the cells at which the first play stands
+    abbrev at : ℕ
+    at = standsAt log [] 0 a first
+
+    abbrev cells : List Cell
+    cells = cellsIn first
+
+    abbrev next : Replica
+    next = record { hosting = r .hosting; position = at; count = length cells }
+
+    module _ (f : badFrame log ≡ false) (g : lowestBad depots log ≡ none) (c : badReplica (log .tail) r t ≡ false) (d : model.badStop (log .tail) r a ≡ false) where
+      on : r .position ≤ a
+      on = ltb-false a (r .position) (search ors)
+
+      counted : r .count ≤ capacity t
+      counted = ltb-false (capacity t) (r .count) (search ors)
+
+      reached : Reached log set (capacity t) (r .position) (cellsOf t (r .count)) (a - r .position) at cells
+      reached =
+          let e : r .position + (a - r .position) ≡ a = omega (arith, on) in
+          subst (λ (n : ℕ). Reached log set (capacity t) (r .position) (cellsOf t (r .count)) (a - r .position) (standsAt log [] 0 n first) cells) e
+          (play-reached log set (capacity t) (r .position) (cellsOf t (r .count)) (a - r .position))
+
+      before : at ≤ a
+      before = omega (arith, reached .to, on)
+
+      few : length cells ≤ capacity t
+      few = play-fits log set (capacity t) (r .position) (cellsOf t (r .count)) (a - r .position) (omega (arith, length-cells t (r .count), counted))
+
+      size : length (tableWith t cells) ≡ length t
+      size = length-with t cells few
+
+      fit : all fitsCell cells ≡ true
+      fit = play-fit log set (capacity t) (good-kept depots log g) (tail-small log f) (r .position) (cellsOf t (r .count)) (a - r .position)
+          (omega (arith, on)) (cells-fit t bytes (r .count))
+
+      -- the second play goes on from there
+      second : model.playFrom depots log next (tableWith t cells) b ≡ play log set (capacity t) at cells (b - at)
+      second =
+          ap (λ (n : ℕ). play log set (n / 24) at (cellsOf (tableWith t cells) (length cells)) (b - at)) size
+          ∙ ap (λ (cs : List Cell). play log set (capacity t) at cs (b - at)) (cells-back t cells fit)
+
+      -- and so does the whole one
+      whole : model.playFrom depots log r t b ≡ play log set (capacity t) at cells (b - at)
+      whole =
+          let p = r .position in
+          let e : b - p ≡ (at - p) + (b - at) = omega (arith, reached .from, before) in
+          let h : p + (at - p) ≡ at = omega (arith, reached .from) in
+          ap (play log set (capacity t) p (cellsOf t (r .count))) e
+          ∙ play-on log set (capacity t) p (cellsOf t (r .count)) (at - p) (b - at)
+          ∙ ap (λ (x : Played). andThen x (λ ds. play log set (capacity t) (p + (at - p)) ds (b - at))) (reached .by)
+          ∙ ap (λ (n : ℕ). play log set (capacity t) n cells (b - at)) h
+
+      -- nothing refuses either of them
+      next-fits : badReplica (log .tail) next (tableWith t cells) ≡ false
+      next-fits =
+          let n : length cells ≤ capacity (tableWith t cells) = omega (arith, few, size) in
+          let some-set : eqb (r .hosting) 0 ≡ false = search ors in
+          neither (neither some-set (le-ltb (capacity (tableWith t cells)) (length cells) n)) (le-ltb (log .tail) at (omega (arith, before)))
+
+      next-stop : model.badStop (log .tail) next b ≡ false
+      next-stop = neither (le-ltb (log .tail) b m) (le-ltb b at (omega (arith, before)))
+
+      whole-stop : model.badStop (log .tail) r b ≡ false
+      whole-stop = neither (le-ltb (log .tail) b m) (le-ltb b (r .position) (omega (arith, on)))
+
+      goes-on : model.playCall depots log next (tableWith t cells) b ≡ model.playCall depots log r t b
+      goes-on =
+          runs next (tableWith t cells) b f g next-fits next-stop
+          ∙ ap (model.leftBy (r .hosting) b (tableWith t cells)) second
+          ∙ left-again (r .hosting) b t cells (play log set (capacity t) at cells (b - at)) (play-grows log set (capacity t) at cells (b - at))
+          ∙ ap (model.leftBy (r .hosting) b t) (sym whole)
+          ∙ sym (runs r t b f g c whole-stop)
+
+    pub instalments : model.playCall depots log (model.playCall depots log r t a .replica) (model.playCall depots log r t a .table) b ≡ model.playCall depots log r t b
+    unfolding model.playCall badFrame
+    instalments = go (model.playRefusal depots log r t a) refl
+      where
+        go : (z : Option Refusal) → model.playRefusal depots log r t a ≡ z
+            → model.playCall depots log (model.playGiven r a t first z .replica) (model.playGiven r a t first z .table) b ≡ model.playCall depots log r t b
+        go (some z) e = refl
+        go none e =
+            let pass = all-pass (tests r t a) e in
+            ap (λ (x : Replica). model.playCall depots log x (model.leftBy (r .hosting) a t first .table) b) (left-at (r .hosting) a t first)
+            ∙ ap (λ (x : List ℕ). model.playCall depots log next x b) (left-table (r .hosting) a t first)
+            ∙ goes-on (refuse-none 1 _ (pass .0)) (refuseAt-none 2 _ (pass .1 .0)) (refuse-none 10 _ (pass .1 .1 .0)) (refuse-none 3 _ (pass .1 .1 .1 .0))
+
+-- Instalments of the calls.
+pub calls-instalments : CallsInstalments
+unfolding logIn
+calls-instalments log k bytes one two entire e l m =
+    let stop : ℕ = entire .stop in
+    let given : leftOf log (one .kept) two ≡ model.playCall depots (inLog log) (replicaIn (one .kept .replica)) (one .kept .table) stop =
+    two .promise ∙ ap (model.playCall depots (inLog log) (replicaIn (one .kept .replica)) (one .kept .table)) e in
+    given
+    ∙ ap (λ (x : model.Left). model.playCall depots (inLog log) (x .replica) (x .table) stop) (one .promise)
+    ∙ instalments (inLog log) (replicaIn (k .replica)) (k .table) bytes (one .stop) stop l m
+    ∙ sym (entire .promise)

@@ -1,0 +1,5 @@
+pub mod Histories
+pub mod Behave
+pub mod ReadBack
+pub mod KeepGood
+pub mod Instalments
