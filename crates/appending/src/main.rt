@@ -1,8 +1,6 @@
 // Makes appends on the logs of standard input and prints their answers, and the log that they left. The input is a list of
 // cases: tail, length of the log, the log, number of requests, the requests. It and the expected output come from the second
 // implementation.
-mod input;
-mod print;
 mod requests;
 
 // The requests from a place on, one after the other; answers the place after them.
@@ -25,10 +23,10 @@ fn dump(log: &[u8]) {
     let n = log.len() / 4;
     let mut k = 0;
     while k < n {
-        print::next(print::wide(codec::bytes::be32(log, 4 * k)));
+        printing::next(printing::wide(codec::bytes::be32(log, 4 * k)));
         k += 1;
     }
-    print::line_end();
+    printing::line_end();
 }
 
 // The requests, and the log that they left.
@@ -40,14 +38,14 @@ fn run(input: &[u8], at: usize, n: usize, log: &mut [u8], tail: usize) -> usize 
 
 // The case at a place, on a log of its own; answers the place after it.
 fn case(input: &[u8], at: usize) -> usize {
-    let tail = input::word(input, at) as usize;
-    let second = input::after(input, at, 4);
-    let size = input::word(input, second) as usize;
-    let third = input::after(input, second, 4);
-    let bytes = input::part(input, third, size);
-    let fourth = input::after(input, third, size);
-    let n = input::word(input, fourth) as usize;
-    let fifth = input::after(input, fourth, 4);
+    let tail = cases::word(input, at) as usize;
+    let second = cases::after(input, at, 4);
+    let size = cases::word(input, second) as usize;
+    let third = cases::after(input, second, 4);
+    let bytes = cases::part(input, third, size);
+    let fourth = cases::after(input, third, size);
+    let n = cases::word(input, fourth) as usize;
+    let fifth = cases::after(input, fourth, 4);
     let mut log = [0u8; 4096];
     if 4096 < bytes.len() {
         return input.len();

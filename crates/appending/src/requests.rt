@@ -16,13 +16,13 @@ fn answer(a: Appended, tail: usize) -> usize {
     match a {
         Appended::Tail(t) => {
             io::write_all(1, b" done");
-            crate::print::next(t as u64);
-            crate::print::line_end();
+            printing::next(t as u64);
+            printing::line_end();
             t
         }
         Appended::Refused(r) => {
-            crate::print::refusal(r);
-            crate::print::line_end();
+            printing::next_refusal(r);
+            printing::line_end();
             tail
         }
     }
@@ -62,57 +62,57 @@ fn checkpoint(log: &mut [u8], tail: usize, r: Record, table: &[u8], object: u32)
 
 // The decision at a place.
 fn decision_at(input: &[u8], at: usize, log: &mut [u8], tail: usize) -> Left {
-    let second = crate::input::after(input, at, 8);
+    let second = cases::after(input, at, 8);
     let t = decision(
         log,
         tail,
-        crate::input::long(input, at),
-        crate::input::word(input, second),
+        cases::long(input, at),
+        cases::word(input, second),
     );
     Left {
-        at: crate::input::after(input, second, 4),
+        at: cases::after(input, second, 4),
         tail: t,
     }
 }
 
 // The checkpoint at a place.
 fn checkpoint_at(input: &[u8], at: usize, log: &mut [u8], tail: usize) -> Left {
-    let second = crate::input::after(input, at, 4);
-    let third = crate::input::after(input, second, 8);
+    let second = cases::after(input, at, 4);
+    let third = cases::after(input, second, 8);
     let r = Record {
-        hosted: crate::print::low(crate::input::word(input, at)),
-        position: crate::input::long(input, second),
-        count: crate::input::long(input, third),
+        hosted: cases::low(cases::word(input, at)),
+        position: cases::long(input, second),
+        count: cases::long(input, third),
     };
-    let fourth = crate::input::after(input, third, 8);
-    let object = crate::input::word(input, fourth);
-    let fifth = crate::input::after(input, fourth, 4);
-    let n = crate::input::word(input, fifth) as usize;
-    let sixth = crate::input::after(input, fifth, 4);
-    let table = crate::input::part(input, sixth, n);
+    let fourth = cases::after(input, third, 8);
+    let object = cases::word(input, fourth);
+    let fifth = cases::after(input, fourth, 4);
+    let n = cases::word(input, fifth) as usize;
+    let sixth = cases::after(input, fifth, 4);
+    let table = cases::part(input, sixth, n);
     let t = checkpoint(log, tail, r, table, object);
     Left {
-        at: crate::input::after(input, sixth, n),
+        at: cases::after(input, sixth, n),
         tail: t,
     }
 }
 
 // The request at a place of the input, made on a log.
 pub fn request(input: &[u8], at: usize, log: &mut [u8], tail: usize) -> Left {
-    let kind = crate::input::word(input, at);
-    let first = crate::input::after(input, at, 4);
+    let kind = cases::word(input, at);
+    let first = cases::after(input, at, 4);
     if kind == 3 {
         return decision_at(input, first, log, tail);
     }
     if kind == 4 {
         return checkpoint_at(input, first, log, tail);
     }
-    let number = crate::input::word(input, first);
-    let second = crate::input::after(input, first, 4);
-    let n = crate::input::word(input, second) as usize;
-    let third = crate::input::after(input, second, 4);
-    let items = crate::input::part(input, third, n);
-    let end = crate::input::after(input, third, n);
+    let number = cases::word(input, first);
+    let second = cases::after(input, first, 4);
+    let n = cases::word(input, second) as usize;
+    let third = cases::after(input, second, 4);
+    let items = cases::part(input, third, n);
+    let end = cases::after(input, third, n);
     if kind == 1 {
         let t = update(log, tail, number, items);
         return Left { at: end, tail: t };

@@ -1,7 +1,6 @@
 // Opens replicas at checkpoints, plays and reads them, and audits, on the logs of standard input, and prints the answers, and the
 // tables that they left. The input is a list of cases: log, table, record, requests. It and the expected output come from the
 // second implementation.
-mod input;
 mod requests;
 
 use records::Record;
@@ -41,35 +40,35 @@ fn dump(table: &[u8]) {
 
 // The record at a place.
 fn record_at(input: &[u8], at: usize) -> Record {
-    let second = input::after(input, at, 4);
-    let third = input::after(input, second, 8);
+    let second = cases::after(input, at, 4);
+    let third = cases::after(input, second, 8);
     Record {
-        hosted: requests::low(input::word(input, at)),
-        position: input::long(input, second),
-        count: input::long(input, third),
+        hosted: cases::low(cases::word(input, at)),
+        position: cases::long(input, second),
+        count: cases::long(input, third),
     }
 }
 
 // The record and the requests at a place, on a log and a table.
 fn run(input: &[u8], at: usize, log: &[u8], table: &mut [u8]) -> usize {
     let r = record_at(input, at);
-    let second = input::after(input, at, 20);
-    let n = input::word(input, second) as usize;
-    let next = all_requests(input, input::after(input, second, 4), n, log, table, r);
+    let second = cases::after(input, at, 20);
+    let n = cases::word(input, second) as usize;
+    let next = all_requests(input, cases::after(input, second, 4), n, log, table, r);
     dump(table);
     next
 }
 
 // The case at a place, on a table of its own; answers the place after it.
 fn case(input: &[u8], at: usize) -> usize {
-    let size = input::word(input, at) as usize;
-    let second = input::after(input, at, 4);
-    let log = input::part(input, second, size);
-    let third = input::after(input, second, size);
-    let length = input::word(input, third) as usize;
-    let fourth = input::after(input, third, 4);
-    let bytes = input::part(input, fourth, length);
-    let fifth = input::after(input, fourth, length);
+    let size = cases::word(input, at) as usize;
+    let second = cases::after(input, at, 4);
+    let log = cases::part(input, second, size);
+    let third = cases::after(input, second, size);
+    let length = cases::word(input, third) as usize;
+    let fourth = cases::after(input, third, 4);
+    let bytes = cases::part(input, fourth, length);
+    let fifth = cases::after(input, fourth, length);
     let mut table = [0u8; 4096];
     if 4096 < bytes.len() {
         return input.len();

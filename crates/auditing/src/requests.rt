@@ -14,29 +14,13 @@ pub struct Stand {
     pub record: Record,
 }
 
-fn byte(n: u8) -> u64 {
-    n as u64
-}
-
-// The lowest byte of a number.
-pub fn low(n: u32) -> u8 {
-    (n % 256) as u8
-}
-
-// The three numbers of a record.
-fn record(r: Record) {
-    printing::next(byte(r.hosted));
-    printing::next(r.position);
-    printing::next(r.count);
-}
-
 fn open(r: Record, hosted: u8) -> Record {
     io::write_all(1, b"open ");
     let o = replica::opening::open_fresh(hosted);
     match o {
         Opened::Replica(x) => {
             io::write_all(1, b"done");
-            record(x);
+            printing::next_record(x);
             printing::line_end();
             x
         }
@@ -58,7 +42,7 @@ fn left(l: Left) -> Record {
         }
         Checked::Refused(x) => printing::refusal(x),
     }
-    record(r);
+    printing::next_record(r);
     printing::line_end();
     r
 }
@@ -82,7 +66,7 @@ fn restore(log: &[u8], tail: usize, o: u64, r: Record, table: &mut [u8]) -> Reco
     match a {
         Checked::Done => {
             io::write_all(1, b"done");
-            record(opened);
+            printing::next_record(opened);
             printing::line_end();
             opened
         }
@@ -140,8 +124,8 @@ fn long_request(
     table: &mut [u8],
     r: Record,
 ) -> Stand {
-    let n = crate::input::long(input, at);
-    let next = crate::input::after(input, at, 8);
+    let n = cases::long(input, at);
+    let next = cases::after(input, at, 8);
     if kind == 2 {
         return Stand {
             at: next,
@@ -156,14 +140,14 @@ fn long_request(
 
 // The request at a place of the input.
 pub fn request(input: &[u8], at: usize, log: &[u8], table: &mut [u8], r: Record) -> Stand {
-    let kind = crate::input::word(input, at);
-    let first = crate::input::after(input, at, 4);
-    let a = crate::input::word(input, first);
-    let second = crate::input::after(input, first, 4);
+    let kind = cases::word(input, at);
+    let first = cases::after(input, at, 4);
+    let a = cases::word(input, first);
+    let second = cases::after(input, first, 4);
     if kind == 1 {
         return Stand {
             at: second,
-            record: open(r, low(a)),
+            record: open(r, cases::low(a)),
         };
     }
     if kind == 5 {
@@ -173,9 +157,9 @@ pub fn request(input: &[u8], at: usize, log: &[u8], table: &mut [u8], r: Record)
         };
     }
     if kind == 3 {
-        cell(r, table, a, crate::input::word(input, second));
+        cell(r, table, a, cases::word(input, second));
         return Stand {
-            at: crate::input::after(input, second, 4),
+            at: cases::after(input, second, 4),
             record: r,
         };
     }

@@ -1,21 +1,19 @@
 // Runs the forms that carry their state, a stream reader and a record moved on in place, on the logs of standard input and prints
 // what they answer. The input comes from the second implementation, and so does the expected output, by its stream list and its
 // play by value.
-mod input;
-mod print;
 mod runs;
 mod streams;
 
 // The case at a place; answers the place after it.
 fn case(input: &[u8], at: usize) -> usize {
-    let kind = input::word(input, at);
-    let second = input::after(input, at, 4);
-    let size = input::word(input, second) as usize;
-    let third = input::after(input, second, 4);
-    let log = input::part(input, third, size);
-    let fourth = input::after(input, third, size);
-    let n = input::word(input, fourth);
-    let fifth = input::after(input, fourth, 4);
+    let kind = cases::word(input, at);
+    let second = cases::after(input, at, 4);
+    let size = cases::word(input, second) as usize;
+    let third = cases::after(input, second, 4);
+    let log = cases::part(input, third, size);
+    let fourth = cases::after(input, third, size);
+    let n = cases::word(input, fourth);
+    let fifth = cases::after(input, fourth, 4);
     if kind == 1 {
         streams::all(log, n);
         return fifth;

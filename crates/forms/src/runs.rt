@@ -12,9 +12,9 @@ fn play(log: &[u8], tail: u32, r: Record, table: &mut [u8], stop: u64) -> Record
         Checked::Done => {
             io::write_all(1, b" done");
         }
-        Checked::Refused(x) => crate::print::refusal(x),
+        Checked::Refused(x) => printing::next_refusal(x),
     }
-    crate::print::record(left);
+    printing::next_record(left);
     printing::line_end();
     left
 }
@@ -25,11 +25,11 @@ fn plays(input: &[u8], at: usize, n: usize, log: &[u8], table: &mut [u8], r: Rec
     let mut x = r;
     let mut k = 0;
     while k < n {
-        let second = crate::input::after(input, a, 4);
-        let tail = crate::input::word(input, a);
-        let stop = crate::input::long(input, second);
+        let second = cases::after(input, a, 4);
+        let tail = cases::word(input, a);
+        let stop = cases::long(input, second);
         x = play(log, tail, x, table, stop);
-        a = crate::input::after(input, second, 8);
+        a = cases::after(input, second, 8);
         k += 1;
     }
     x
@@ -49,38 +49,38 @@ fn dump(table: &[u8]) {
 
 // The record at a place.
 fn record_at(input: &[u8], at: usize) -> Record {
-    let second = crate::input::after(input, at, 4);
-    let third = crate::input::after(input, second, 8);
+    let second = cases::after(input, at, 4);
+    let third = cases::after(input, second, 8);
     Record {
-        hosted: crate::print::low(crate::input::word(input, at)),
-        position: crate::input::long(input, second),
-        count: crate::input::long(input, third),
+        hosted: cases::low(cases::word(input, at)),
+        position: cases::long(input, second),
+        count: cases::long(input, third),
     }
 }
 
 // The record and the instalments at a place, on a log and a table; answers the place after them.
 fn instalments(input: &[u8], at: usize, log: &[u8], table: &mut [u8]) -> usize {
     let r = record_at(input, at);
-    let second = crate::input::after(input, at, 20);
-    let n = crate::input::word(input, second) as usize;
-    let third = crate::input::after(input, second, 4);
+    let second = cases::after(input, at, 20);
+    let n = cases::word(input, second) as usize;
+    let third = cases::after(input, second, 4);
     let left = plays(input, third, n, log, table, r);
     io::write_all(1, b"left");
-    crate::print::record(left);
+    printing::next_record(left);
     printing::line_end();
     dump(table);
     if input.len() / 12 < n {
         return input.len();
     }
-    crate::input::after(input, third, 12 * n)
+    cases::after(input, third, 12 * n)
 }
 
 // The run at a place, on a table of its own; answers the place after it.
 fn run(input: &[u8], at: usize, log: &[u8]) -> usize {
-    let length = crate::input::word(input, at) as usize;
-    let second = crate::input::after(input, at, 4);
-    let bytes = crate::input::part(input, second, length);
-    let third = crate::input::after(input, second, length);
+    let length = cases::word(input, at) as usize;
+    let second = cases::after(input, at, 4);
+    let bytes = cases::part(input, second, length);
+    let third = cases::after(input, second, length);
     let mut table = [0u8; 4096];
     if 4096 < bytes.len() {
         return input.len();

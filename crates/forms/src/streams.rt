@@ -14,7 +14,7 @@ fn shown(a: NextEntry) -> bool {
             false
         }
         NextEntry::Refused(r) => {
-            crate::print::refusal(r);
+            printing::next_refusal(r);
             false
         }
     }

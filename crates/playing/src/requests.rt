@@ -16,9 +16,9 @@ pub struct Stand {
 
 // The three numbers of a record.
 fn record(r: Record) {
-    crate::print::next(crate::print::byte(r.hosted));
-    crate::print::next(r.position);
-    crate::print::next(r.count);
+    printing::next(printing::byte(r.hosted));
+    printing::next(r.position);
+    printing::next(r.count);
 }
 
 fn open(r: Record, hosted: u8) -> Record {
@@ -28,12 +28,12 @@ fn open(r: Record, hosted: u8) -> Record {
         Opened::Replica(x) => {
             io::write_all(1, b" done");
             record(x);
-            crate::print::line_end();
+            printing::line_end();
             x
         }
         Opened::Refused(x) => {
-            crate::print::refusal(x);
-            crate::print::line_end();
+            printing::next_refusal(x);
+            printing::line_end();
             r
         }
     }
@@ -48,10 +48,10 @@ fn play(log: &[u8], tail: usize, r: Record, table: &mut [u8], stop: u64) -> Reco
         Checked::Done => {
             io::write_all(1, b" done");
         }
-        Checked::Refused(x) => crate::print::refusal(x),
+        Checked::Refused(x) => printing::next_refusal(x),
     }
     record(left);
-    crate::print::line_end();
+    printing::line_end();
     left
 }
 
@@ -59,24 +59,24 @@ fn content(c: Content) {
     let v = c.version;
     if c.removed {
         io::write_all(1, b" removed");
-        crate::print::next(v.0);
+        printing::next(v.0);
         return;
     }
     io::write_all(1, b" value");
-    crate::print::next(crate::print::wide(c.value));
-    crate::print::next(v.0);
+    printing::next(printing::wide(c.value));
+    printing::next(v.0);
 }
 
 fn cell(r: Record, table: &[u8], id: u32, key: u32) {
     io::write_all(1, b"cell");
-    crate::print::next(crate::print::wide(id));
-    crate::print::next(crate::print::wide(key));
+    printing::next(printing::wide(id));
+    printing::next(printing::wide(key));
     let c = replica::cells::read_cell(r, table, ObjectId(id), key);
     match c {
         Reading::Cell(h) => held(h),
-        Reading::Refused(x) => crate::print::refusal(x),
+        Reading::Refused(x) => printing::next_refusal(x),
     }
-    crate::print::line_end();
+    printing::line_end();
 }
 
 fn held(h: Held) {
@@ -90,26 +90,26 @@ fn held(h: Held) {
 
 // The request at a place of the input.
 pub fn request(input: &[u8], at: usize, log: &[u8], table: &mut [u8], r: Record) -> Stand {
-    let kind = crate::input::word(input, at);
-    let first = crate::input::after(input, at, 4);
-    let a = crate::input::word(input, first);
-    let second = crate::input::after(input, first, 4);
+    let kind = cases::word(input, at);
+    let first = cases::after(input, at, 4);
+    let a = cases::word(input, first);
+    let second = cases::after(input, first, 4);
     if kind == 1 {
         return Stand {
             at: second,
-            record: open(r, crate::print::low(a)),
+            record: open(r, cases::low(a)),
         };
     }
     if kind == 2 {
-        let stop = crate::input::long(input, second);
+        let stop = cases::long(input, second);
         return Stand {
-            at: crate::input::after(input, second, 8),
+            at: cases::after(input, second, 8),
             record: play(log, a as usize, r, table, stop),
         };
     }
-    cell(r, table, a, crate::input::word(input, second));
+    cell(r, table, a, cases::word(input, second));
     Stand {
-        at: crate::input::after(input, second, 4),
+        at: cases::after(input, second, 4),
         record: r,
     }
 }

@@ -2,6 +2,7 @@
 ghost use mathlib.Core.Path.{_≡_};
 use answers::Refusal;
 use answers::Told;
+use records::Record;
 
 pub fn number(n: u64) {
     io::print_decimal(1, n);
@@ -36,4 +37,24 @@ pub fn refusal(r: Refusal) {
             io::write_all(1, b"-");
         }
     }
+}
+
+// The same after a space.
+pub fn next_refusal(r: Refusal) {
+    io::write_all(1, b" ");
+    refusal(r);
+}
+
+// A byte in 64 bits.
+pub fn byte(n: u8) -> u64
+    ensures { λ r. ⌜ r ≡ n ⌝ }
+{
+    n as u64
+}
+
+// The three numbers of a record, each after a space.
+pub fn next_record(r: Record) {
+    next(byte(r.hosted));
+    next(r.position);
+    next(r.count);
 }

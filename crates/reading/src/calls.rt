@@ -14,22 +14,22 @@ pub fn check(log: &[u8], tail: usize) {
         Checked::Done => {
             io::write_all(1, b" done");
         }
-        Checked::Refused(r) => crate::print::refusal(r),
+        Checked::Refused(r) => printing::next_refusal(r),
     }
-    crate::print::line_end();
+    printing::line_end();
 }
 
 pub fn owed(log: &[u8], tail: usize) {
     io::write_all(1, b"owed");
     let w = entries::owing::lowest_owing(log, tail);
     match w {
-        Owed::At(o) => crate::print::next(o.0),
+        Owed::At(o) => printing::next(o.0),
         Owed::Nothing => {
             io::write_all(1, b" none");
         }
-        Owed::Refused(r) => crate::print::refusal(r),
+        Owed::Refused(r) => printing::next_refusal(r),
     }
-    crate::print::line_end();
+    printing::line_end();
 }
 
 fn kind(m: Mark) -> u64 {
@@ -48,9 +48,9 @@ fn header(h: Header, place: u32, headers: u32) {
         return;
     }
     let x = h.object;
-    crate::print::next(x.0 as u64);
-    crate::print::next(h.format as u64);
-    crate::print::next(h.pointer);
+    printing::next(x.0 as u64);
+    printing::next(h.format as u64);
+    printing::next(h.pointer);
 }
 
 fn info(i: Info) {
@@ -60,10 +60,10 @@ fn info(i: Info) {
     let second = i.second;
     let third = i.third;
     let fourth = i.fourth;
-    crate::print::next(kind(k));
-    crate::print::next(n.0 as u64);
-    crate::print::next(i.headers as u64);
-    crate::print::next(i.items as u64);
+    printing::next(kind(k));
+    printing::next(n.0 as u64);
+    printing::next(i.headers as u64);
+    printing::next(i.items as u64);
     header(first, 0, i.headers);
     header(second, 1, i.headers);
     header(third, 2, i.headers);
@@ -72,13 +72,13 @@ fn info(i: Info) {
 
 fn entry(log: &[u8], tail: usize, o: u64) {
     io::write_all(1, b"entry");
-    crate::print::next(o);
+    printing::next(o);
     let f = entries::calls::entry(log, tail, Offset(o));
     match f {
         Found::Entry(i) => info(i),
-        Found::Refused(r) => crate::print::refusal(r),
+        Found::Refused(r) => printing::next_refusal(r),
     }
-    crate::print::line_end();
+    printing::line_end();
 }
 
 // The bytes as numbers of 4 bytes.
@@ -86,16 +86,16 @@ fn words(s: &[u8]) {
     let n = s.len() / 4;
     let mut k = 0;
     while k < n {
-        crate::print::next(codec::bytes::be32(s, 4 * k) as u64);
+        printing::next(codec::bytes::be32(s, 4 * k) as u64);
         k += 1;
     }
 }
 
 fn items(log: &[u8], tail: usize, o: u64) {
     io::write_all(1, b"items");
-    crate::print::next(o);
+    printing::next(o);
     words(entries::calls::items(log, tail, Offset(o)));
-    crate::print::line_end();
+    printing::line_end();
 }
 
 fn both(log: &[u8], tail: usize, o: u64) {

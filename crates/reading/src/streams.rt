@@ -6,20 +6,20 @@ use entries::reader::NextEntry;
 
 fn next(log: &[u8], tail: usize, x: u32, from: u64) {
     io::write_all(1, b"next");
-    crate::print::next(x as u64);
-    crate::print::next(from);
+    printing::next(x as u64);
+    printing::next(from);
     let n = entries::reader::stream_next(log, tail, ObjectId(x), Offset(from));
     let f = n.found;
     let r = n.reader;
     match f {
-        NextEntry::At(o) => crate::print::next(o.0),
+        NextEntry::At(o) => printing::next(o.0),
         NextEntry::End => {
             io::write_all(1, b" end");
         }
-        NextEntry::Refused(r) => crate::print::refusal(r),
+        NextEntry::Refused(r) => printing::next_refusal(r),
     }
-    crate::print::next(r.0);
-    crate::print::line_end();
+    printing::next(r.0);
+    printing::line_end();
 }
 
 // From 0, the middle, the tail and the offset after it.
@@ -39,20 +39,20 @@ pub fn nexts(log: &[u8], tail: usize, x: u32) {
 fn numbers(list: &[u32]) {
     let mut k = 0;
     while k < list.len() {
-        crate::print::next(crate::print::wide(list[k]));
+        printing::next(printing::wide(list[k]));
         k += 1;
     }
-    crate::print::line_end();
+    printing::line_end();
 }
 
 fn list(log: &[u8], tail: usize, x: u32, lent: &mut [u32]) {
     io::write_all(1, b"list");
-    crate::print::next(x as u64);
-    crate::print::next(lent.len() as u64);
+    printing::next(x as u64);
+    printing::next(lent.len() as u64);
     let l = entries::listing::stream_list(log, tail, ObjectId(x), lent);
     match l {
-        Listed::Count(n) => crate::print::next(n as u64),
-        Listed::Refused(r) => crate::print::refusal(r),
+        Listed::Count(n) => printing::next(n as u64),
+        Listed::Refused(r) => printing::next_refusal(r),
     }
     numbers(lent);
 }

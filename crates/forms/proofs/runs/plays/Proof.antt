@@ -8,9 +8,9 @@ use Rattle.forms.proofs.runs.plays.Statement.{statement}
 use Rattle.forms.proofs.runs.plays.Tie as tie
 use Rattle.forms.proofs.runs.plays.Reads as reads
 use Rattle.forms.proofs.runs.plays.Lts as lts
-use Rattle.forms.proofs.input.after.Reads as after-reads
-use Rattle.forms.proofs.input.long.Reads as long-reads
-use Rattle.forms.proofs.input.word.Reads as word-reads
+use Rattle.cases.proofs.after.Reads as after-reads
+use Rattle.cases.proofs.long.Reads as long-reads
+use Rattle.cases.proofs.word.Reads as word-reads
 use Rattle.forms.proofs.runs.play.Reads as play-reads
 
 abbrev Inv-loop : tie.InvT-loop

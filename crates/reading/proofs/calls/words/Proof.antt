@@ -8,7 +8,7 @@ use Rattle.reading.proofs.calls.words.Tie as tie
 use Rattle.reading.proofs.calls.words.Reads as reads
 use Rattle.reading.proofs.calls.words.Lts as lts
 use Rattle.codec.proofs.bytes.be32.Reads as be32-reads
-use Rattle.reading.proofs.print.next.Reads as next-reads
+use Rattle.printing.proofs.next.Reads as next-reads
 
 abbrev Inv-loop : tie.InvT-loop
 Inv-loop s n k₀ k = (k ≤ n) × (4 * n ≤ length s)

@@ -7,9 +7,9 @@ use Rattle.reading.proofs.streams.numbers.Statement.{statement}
 use Rattle.reading.proofs.streams.numbers.Tie as tie
 use Rattle.reading.proofs.streams.numbers.Reads as reads
 use Rattle.reading.proofs.streams.numbers.Lts as lts
-use Rattle.reading.proofs.print.line_end.Reads as line-end-reads
-use Rattle.reading.proofs.print.next.Reads as next-reads
-use Rattle.reading.proofs.print.wide.Reads as wide-reads
+use Rattle.printing.proofs.line_end.Reads as line-end-reads
+use Rattle.printing.proofs.next.Reads as next-reads
+use Rattle.printing.proofs.wide.Reads as wide-reads
 
 abbrev Inv-loop : tie.InvT-loop
 Inv-loop list k₀ k = k ≤ length list
