@@ -1,6 +1,7 @@
 //! Stored vectors of the appends: a log, the requests made on it one after the other, and what must come of each.
 //! The format stands at the head of `src/bin/vectors.rs`.
 
+pub mod checkpoints;
 pub mod fields;
 pub mod growing;
 pub mod histories;
@@ -56,6 +57,7 @@ pub fn named() -> Vec<Case> {
     let mut cases = growing::cases();
     cases.extend(orders::cases());
     cases.extend(fields::cases());
+    cases.extend(checkpoints::cases());
     cases.extend(lent::cases());
     cases
 }

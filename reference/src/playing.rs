@@ -298,15 +298,20 @@ fn print_case(text: &mut String, case: &Case) {
             }
         };
     }
-    text.push_str("table");
-    for word in table.chunks_exact(4) {
+    let _ = writeln!(text, "table{}", words(&table));
+}
+
+/// After a space each, the bytes as 4-byte words.
+pub fn words(bytes: &[u8]) -> String {
+    let mut text = String::new();
+    for word in bytes.chunks_exact(4) {
         let word = u32::from_be_bytes([word[0], word[1], word[2], word[3]]);
         let _ = write!(text, " {word}");
     }
-    text.push('\n');
+    text
 }
 
-fn record_shown(record: Record) -> String {
+pub fn record_shown(record: Record) -> String {
     format!("{} {} {}", record.hosted, record.position, record.count)
 }
 

@@ -82,6 +82,8 @@ pub struct Mix {
     pub keys: u32,
     /// How many transactions are open at once.
     pub open: usize,
+    /// Transaction numbers are multiples of it.
+    pub stride: u32,
     /// Chances in percent: a read has an old version, a decision or checkpoint is false, a request is broken.
     pub stale: u64,
     pub false_decisions: u64,
@@ -96,6 +98,7 @@ impl Mix {
             objects: 0xFF,
             keys: 3,
             open: 4,
+            stride: 1,
             stale: 15,
             false_decisions: 0,
             false_checkpoints: 0,
@@ -134,7 +137,8 @@ pub struct History {
     /// Every append's arguments and answer, in order.
     pub appends: Vec<(Request, Answer<usize>)>,
     open: Vec<u32>,
-    last_number: u32,
+    /// How many transaction numbers were begun.
+    numbers: u32,
     undecided: Vec<u64>,
 }
 
@@ -147,7 +151,7 @@ impl History {
             run: Run::new(),
             appends: Vec::new(),
             open: Vec::new(),
-            last_number: 0,
+            numbers: 0,
             undecided: Vec::new(),
         }
     }
@@ -239,20 +243,30 @@ impl History {
     /// The number of an open transaction, or a new one, or rarely any used one.
     fn transaction(&mut self) -> u32 {
         if self.random.percent(3) {
-            return 1 + self.random.below(u64::from(self.last_number) + 1) as u32;
+            let place = 1 + self.random.below(u64::from(self.numbers) + 1) as u32;
+            return self.number(place);
         }
         if self.open.len() < self.mix.open && self.random.percent(60) {
-            self.last_number += 1;
-            return self.last_number;
+            self.numbers += 1;
+            return self.number(self.numbers);
         }
-        self.random.pick(&self.open.clone()).unwrap_or(1)
+        let first = self.number(1);
+        self.random.pick(&self.open.clone()).unwrap_or(first)
+    }
+
+    /// The transaction number at a place from 1.
+    fn number(&self, place: u32) -> u32 {
+        place.wrapping_mul(self.mix.stride)
     }
 
     fn commit(&mut self) -> Request {
         let open = self.open.clone();
         let number = match self.random.pick(&open) {
             Some(number) if !self.random.percent(3) => number,
-            _ => 1 + self.random.below(u64::from(self.last_number) + 2) as u32,
+            _ => {
+                let place = 1 + self.random.below(u64::from(self.numbers) + 2) as u32;
+                self.number(place)
+            }
         };
         commit(number, &self.reads())
     }

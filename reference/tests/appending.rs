@@ -8,6 +8,7 @@ use reference::appending::{
     appending, histories, input, named, orders, output, request_bytes, Case,
 };
 use reference::log::{check, entry, header, items};
+use reference::replica::Record;
 use reference::sample::*;
 use reference::slot::{Kind, SLOT};
 use reference::table::Row;
@@ -32,9 +33,10 @@ fn orders_by_hand() {
     let update: &[u32] = &[3, 5, 3, 4, 3, 5, 3, 5, 3, 5, 3, 4, 3, 5, 3, 0];
     let commit: &[u32] = &[3, 6, 3, 4, 3, 0];
     let decision: &[u32] = &[3, 8, 3, 7, 3, 0];
+    let checkpoint: &[u32] = &[10, 3, 10, 14, 10, 3, 10, 13, 10, 3, 10, 14, 10, 3, 10, 0];
     let cases = orders::cases();
-    assert_eq!(cases.len(), 24);
-    let lines = [(update, 3), (commit, 3), (decision, 5)];
+    assert_eq!(cases.len(), 32);
+    let lines = [(update, 3), (commit, 3), (decision, 5), (checkpoint, 3)];
     for ((line, tail), cases) in lines.into_iter().zip(cases.chunks(8)) {
         for (case, by_log) in cases.iter().zip((0..8).rev()) {
             assert_eq!(case.tail, tail);
@@ -109,7 +111,14 @@ fn only_the_slot_at_the_tail_is_written() {
                     item.extend([0; 4]);
                     (Kind::Decision, item)
                 }
-                Request::Checkpoint { .. } => panic!("no case has a checkpoint"),
+                Request::Checkpoint {
+                    record,
+                    table,
+                    object,
+                } => {
+                    let cells = first_cells(table, record.count, u64::from(*object));
+                    (Kind::Checkpoint, saved_items(&cells))
+                }
             };
             assert_eq!(entry(&log, after, tail as u64).done().unwrap().kind, kind);
             assert_eq!(items(&log, after, tail as u64), stored);
@@ -188,7 +197,11 @@ impl Judge {
             Request::Update { number, items } => self.update(*number, items),
             Request::Commit { number, reads } => self.commit(*number, reads),
             Request::Decision { offset, outcome } => self.decision(*offset, *outcome),
-            Request::Checkpoint { .. } => panic!("no case has a checkpoint"),
+            Request::Checkpoint {
+                record,
+                table,
+                object,
+            } => self.checkpoint(record, table, u64::from(*object)),
         };
         if number != 0 {
             return number;
@@ -268,6 +281,56 @@ impl Judge {
             0
         }
     }
+
+    fn checkpoint(&self, record: &Record, table: &[u8], object: u64) -> u32 {
+        let rows = table.len() as u64 / 24;
+        if record.hosted == 0 || record.count > rows || record.position > self.tail {
+            return 10;
+        }
+        if !(1..=8).contains(&object) || record.hosted >> (object - 1) & 1 == 0 {
+            return 3;
+        }
+        let cells = first_cells(table, record.count, object);
+        let good = |(key, held): (&u64, &[u64; 3])| {
+            is_cell(object, *key) && held[2] >= 1 && held[2] <= self.tail
+        };
+        if !cells.iter().all(good) {
+            3
+        } else if record.position != self.tail {
+            14
+        } else if cells.len() > 12 {
+            13
+        } else {
+            0
+        }
+    }
+}
+
+/// Of an object's counted rows, the first of each key: its value and present fields and its version.
+fn first_cells(table: &[u8], count: u64, object: u64) -> BTreeMap<u64, [u64; 3]> {
+    let mut cells = BTreeMap::new();
+    for row in table.chunks_exact(24).take(count as usize) {
+        if get(row, 0, 4) == object {
+            let held = [get(row, 8, 4), get(row, 12, 4), get(row, 16, 8)];
+            cells.entry(get(row, 4, 4)).or_insert(held);
+        }
+    }
+    cells
+}
+
+/// Key 4, value 4, version 8; a removed cell has value 0 and the top bit.
+fn saved_items(cells: &BTreeMap<u64, [u64; 3]>) -> Vec<u8> {
+    let mut bytes = Vec::new();
+    for (key, [value, present, version]) in cells {
+        let (value, field) = match present {
+            1 => (*value, *version),
+            _ => (0, 0x8000_0000_0000_0000 + version),
+        };
+        bytes.extend((*key as u32).to_be_bytes());
+        bytes.extend((value as u32).to_be_bytes());
+        bytes.extend(field.to_be_bytes());
+    }
+    bytes
 }
 
 fn written(items: &[u8]) -> BTreeSet<u32> {
@@ -301,7 +364,7 @@ fn a_plain_judge_says_the_same() {
 #[test]
 fn the_histories_are_as_wide_as_meant() {
     let cases = histories::cases();
-    assert_eq!(cases.len(), 38);
+    assert_eq!(cases.len(), 18);
     let mut seen = BTreeMap::new();
     for case in &cases {
         assert!((6..=16).contains(&(case.log.len() / SLOT)));
@@ -316,10 +379,11 @@ fn the_histories_are_as_wide_as_meant() {
         (1, vec![0, 3, 4, 5, 9]),
         (2, vec![0, 3, 4, 6, 9]),
         (3, vec![0, 3, 7, 8, 9]),
+        (4, vec![0, 3, 9, 10, 14]),
     ] {
         for number in numbers {
             let count = seen.get(&(kind, number)).copied().unwrap_or(0);
-            assert!(count >= 3, "kind {kind}, {number}: {count}");
+            assert!(count >= 2, "kind {kind}, {number}: {count}");
         }
     }
 }
@@ -328,7 +392,7 @@ fn the_histories_are_as_wide_as_meant() {
 fn the_vectors_stay_within_their_bounds() {
     let cases = appending();
     let (stdin, stdout) = (input(&cases), output(&cases));
-    assert!(stdin.len() < 240_000, "{}", stdin.len());
+    assert!(stdin.len() < 262_144, "{}", stdin.len());
     assert!(stdout.len() < 1_500_000, "{}", stdout.len());
     assert!(cases.iter().all(|case| case.log.len() <= 4_096));
     let requests: usize = cases.iter().map(|case| case.requests.len()).sum();
@@ -363,6 +427,19 @@ fn read_back(rest: &mut &[u8], case: &Case) {
             Request::Decision {
                 offset: number(rest, 8),
                 outcome: number(rest, 4) as u32,
+            }
+        } else if kind == 4 {
+            let record = Record {
+                hosted: number(rest, 4) as u8,
+                position: number(rest, 8),
+                count: number(rest, 8),
+            };
+            let object = number(rest, 4) as u32;
+            let length = number(rest, 4) as usize;
+            Request::Checkpoint {
+                record,
+                table: take(rest, length).to_vec(),
+                object,
             }
         } else {
             let transaction = number(rest, 4) as u32;

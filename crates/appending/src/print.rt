@@ -11,6 +11,11 @@ pub fn wide(n: u32) -> u64 {
     n as u64
 }
 
+// The lowest byte of a number.
+pub fn low(n: u32) -> u8 {
+    (n % 256) as u8
+}
+
 // A space and a number.
 pub fn next(n: u64) {
     io::write_all(1, b" ");

@@ -1,7 +1,9 @@
 // One append made, and its answer printed.
 use append::write::Appended;
+use codec::names::ObjectId;
 use codec::names::Offset;
 use codec::names::TxNumber;
+use records::Record;
 
 // The place after a request, and the tail that it left.
 pub struct Left {
@@ -50,22 +52,60 @@ fn decision(log: &mut [u8], tail: usize, o: u64, outcome: u32) -> usize {
     )
 }
 
+fn checkpoint(log: &mut [u8], tail: usize, r: Record, table: &[u8], object: u32) -> usize {
+    io::write_all(1, b"checkpoint");
+    answer(
+        append::checkpoint::checkpoint(log, tail, r, table, ObjectId(object)),
+        tail,
+    )
+}
+
+// The decision at a place.
+fn decision_at(input: &[u8], at: usize, log: &mut [u8], tail: usize) -> Left {
+    let second = crate::input::after(input, at, 8);
+    let t = decision(
+        log,
+        tail,
+        crate::input::long(input, at),
+        crate::input::word(input, second),
+    );
+    Left {
+        at: crate::input::after(input, second, 4),
+        tail: t,
+    }
+}
+
+// The checkpoint at a place.
+fn checkpoint_at(input: &[u8], at: usize, log: &mut [u8], tail: usize) -> Left {
+    let second = crate::input::after(input, at, 4);
+    let third = crate::input::after(input, second, 8);
+    let r = Record {
+        hosted: crate::print::low(crate::input::word(input, at)),
+        position: crate::input::long(input, second),
+        count: crate::input::long(input, third),
+    };
+    let fourth = crate::input::after(input, third, 8);
+    let object = crate::input::word(input, fourth);
+    let fifth = crate::input::after(input, fourth, 4);
+    let n = crate::input::word(input, fifth) as usize;
+    let sixth = crate::input::after(input, fifth, 4);
+    let table = crate::input::part(input, sixth, n);
+    let t = checkpoint(log, tail, r, table, object);
+    Left {
+        at: crate::input::after(input, sixth, n),
+        tail: t,
+    }
+}
+
 // The request at a place of the input, made on a log.
 pub fn request(input: &[u8], at: usize, log: &mut [u8], tail: usize) -> Left {
     let kind = crate::input::word(input, at);
     let first = crate::input::after(input, at, 4);
     if kind == 3 {
-        let second = crate::input::after(input, first, 8);
-        let t = decision(
-            log,
-            tail,
-            crate::input::long(input, first),
-            crate::input::word(input, second),
-        );
-        return Left {
-            at: crate::input::after(input, second, 4),
-            tail: t,
-        };
+        return decision_at(input, first, log, tail);
+    }
+    if kind == 4 {
+        return checkpoint_at(input, first, log, tail);
     }
     let number = crate::input::word(input, first);
     let second = crate::input::after(input, first, 4);

@@ -7,7 +7,7 @@ use crate::slot::SLOT;
 use super::{junk, Case};
 
 pub fn cases() -> Vec<Case> {
-    (0..38).map(history).collect()
+    (0..18).map(history).collect()
 }
 
 fn history(seed: u64) -> Case {
@@ -15,7 +15,7 @@ fn history(seed: u64) -> Case {
         open: 2,
         ..Mix::rough()
     };
-    let mut history = History::new(77_000 + seed, 0, mix);
+    let mut history = History::new(80_422 + seed, 0, mix);
     let slots = slots(&mut history.random);
     history.writer.log = match seed % 4 {
         0 => vec![0; slots * SLOT],
@@ -52,7 +52,7 @@ fn slots(random: &mut Random) -> usize {
     6 + random.below(spread) as usize
 }
 
-/// A request that is no checkpoint: now and then an earlier one again, or a broken one.
+/// A request: now and then an earlier one again, or a broken one.
 fn next(history: &mut History, first: usize) -> Request {
     let made = (history.appends.len() - first) as u64;
     if made > 0 && history.random.percent(15) {
@@ -60,9 +60,6 @@ fn next(history: &mut History, first: usize) -> Request {
         return history.appends[again].0.clone();
     }
     let mut request = history.request();
-    while matches!(request, Request::Checkpoint { .. }) {
-        request = history.request();
-    }
     if history.random.percent(history.mix.broken) {
         let tail = history.writer.tail;
         broken(&mut history.random, &mut request, tail);

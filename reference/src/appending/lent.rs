@@ -3,6 +3,7 @@
 use crate::append::Request;
 use crate::sample::*;
 use crate::slot::{COMMIT, SLOT};
+use crate::table::Row;
 
 use super::{bad_entry, junk, refused, with_junk, Asking, Case};
 
@@ -20,21 +21,23 @@ pub fn cases() -> Vec<Case> {
 }
 
 /// One good request of each kind for the bench log.
-fn good() -> [Request; 3] {
+fn good() -> [Request; 4] {
     [
         update(0, &[put(2, 7, 1)]),
         commit(9, &[read(2, 7, 1)]),
         decision(3, COMMIT),
+        checkpoint_of(2, 5, &[Row::of(2, 7, Some(42), 4)]),
     ]
 }
 
 /// Requests with several faults of their own.
-fn bad() -> [Request; 3] {
+fn bad() -> [Request; 4] {
     let items = vec![9; 15];
     [
         Request::Update { number: 9, items },
         commit(0, &[read(9, 0, u64::MAX)]),
         decision(u64::MAX, 0),
+        checkpoint_of(2, 0, &[Row::of(2, 500, None, u64::MAX)]),
     ]
 }
 

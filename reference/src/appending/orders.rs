@@ -3,8 +3,10 @@
 
 use crate::answer::Answer;
 use crate::append::Request;
+use crate::replica::Record;
 use crate::sample::*;
 use crate::slot::{ABORT, COMMIT};
+use crate::table::Row;
 
 use super::{bad_entry, refused, with_junk, Asking, Case};
 
@@ -21,10 +23,15 @@ struct Order {
 }
 
 pub fn cases() -> Vec<Case> {
-    [update_order(), commit_order(), decision_order()]
-        .iter()
-        .flat_map(order_cases)
-        .collect()
+    [
+        update_order(),
+        commit_order(),
+        decision_order(),
+        checkpoint_order(),
+    ]
+    .iter()
+    .flat_map(order_cases)
+    .collect()
 }
 
 /// A case for each log, with a request for each set of what it can meet itself, the sets with less later.
@@ -152,6 +159,38 @@ fn decision_order() -> Order {
                 (false, false) => 4,
             };
             Some(decision(offset, if *field { 3 } else { ABORT }))
+        },
+    }
+}
+
+/// 10 is met by the count, which excludes nothing else.
+fn checkpoint_order() -> Order {
+    Order {
+        name: "checkpoint",
+        line: &[1, 2, 10, 3, 14, 13, 9],
+        base: vec![
+            update(7, &[put(5, 0, 0)]),
+            commit(7, &[]),
+            update(0, &[put(2, 0, 0)]),
+        ],
+        request: |met| {
+            let [_, _, replica, field, behind, many, _] = met else {
+                return None;
+            };
+            let cells = if *many { 13 } else { 1 };
+            let mut rows: Vec<Row> = (0..cells).map(|key| Row::of(5, key, Some(1), 2)).collect();
+            if *field {
+                rows.last_mut()?.version = 4;
+            }
+            Some(Request::Checkpoint {
+                record: Record {
+                    hosted: 0x10,
+                    position: if *behind { 2 } else { 3 },
+                    count: rows.len() as u64 + u64::from(*replica),
+                },
+                table: table_of(&rows),
+                object: 5,
+            })
         },
     }
 }

@@ -1,5 +1,5 @@
-//! Stored vectors for test programs: `vectors reading OUTDIR`, `vectors appending OUTDIR` and `vectors playing OUTDIR`
-//! write OUTDIR/stdin and OUTDIR/stdout.
+//! Stored vectors for test programs: `vectors reading OUTDIR`, `vectors appending OUTDIR`, `vectors playing OUTDIR` and
+//! `vectors forms OUTDIR` write OUTDIR/stdin and OUTDIR/stdout.
 //!
 //! stdin is a sequence of cases to its end, its numbers stored most significant byte first. stdout is what a program
 //! prints for all cases, in order. Numbers are decimal, with single spaces and '\n' ends; K is the offset told or "-".
@@ -29,7 +29,7 @@
 //! - 2 commit: the same, with the reads' bytes.
 //! - 3 decision: 8 bytes offset, 4 bytes outcome.
 //! - 4 checkpoint: 4 bytes hosted set, 8 bytes position, 8 bytes count, 4 bytes object, 4 bytes length of the table in
-//!   bytes, the table's bytes. There is no case of it yet.
+//!   bytes, the table's bytes.
 //!
 //! For each request: `update done T` with the new tail T, or `update refused N at K`; likewise `commit`, `decision`,
 //! `checkpoint`. At the end of a case: `log`, and after a space each all bytes of the log as 4-byte words; a last part
@@ -50,6 +50,18 @@
 //!
 //! At the end of a case: `table`, and after a space each all bytes of the table as 4-byte words; a last part of fewer
 //! than 4 bytes is left out.
+//!
+//! # Forms
+//!
+//! A case is 4 bytes kind, 4 bytes length of the log in bytes, the log's bytes, then:
+//!
+//! - 1 readers: 4 bytes tail T. For each object x of 0, 1, .. 9, and f of 0, T / 2, T, T + 1: `stream x f`, then what a
+//!   reader at f answers, call by call, to its end or a refusal, and its next offset r afterwards: the offsets and `end`,
+//!   or `refused N at K`.
+//! - 2 runs: 4 bytes their number, then of each 4 bytes length of the table in bytes, the table's bytes, the record (4
+//!   bytes hosted set, 8 bytes position, 8 bytes count), 4 bytes number of instalments, then of each 4 bytes tail and 8
+//!   bytes stop. For each instalment, on the record and table that the last left: `play done H P C` or `play refused N at
+//!   K H P C`, with the record as left. At the end of a run: `left H P C`, and `table` as above.
 
 use std::fmt::Write;
 use std::path::Path;
@@ -57,6 +69,7 @@ use std::process::ExitCode;
 
 use reference::appending::{self, appending};
 use reference::cases::reading;
+use reference::forms;
 use reference::log::{check, entry, header, items, list, next, owed};
 use reference::playing::{self, playing};
 use reference::Answer;
@@ -66,13 +79,14 @@ const FILLED: u32 = 77_777;
 fn main() -> ExitCode {
     let arguments: Vec<String> = std::env::args().skip(1).collect();
     let [what, directory] = arguments.as_slice() else {
-        eprintln!("usage: vectors reading|appending|playing OUTDIR");
+        eprintln!("usage: vectors reading|appending|playing|forms OUTDIR");
         return ExitCode::from(2);
     };
     let vectors = match what.as_str() {
         "reading" => of_reading(),
         "appending" => of_appending(),
         "playing" => of_playing(),
+        "forms" => of_forms(),
         _ => {
             eprintln!("unknown vectors: {what}");
             return ExitCode::from(2);
@@ -124,6 +138,14 @@ fn of_playing() -> Vectors {
         cases: cases.len(),
         input: playing::input(&cases),
         output: playing::output(&cases),
+    }
+}
+
+fn of_forms() -> Vectors {
+    Vectors {
+        cases: forms::readers().len() + forms::logs().len(),
+        input: forms::input(),
+        output: forms::output(),
     }
 }
 

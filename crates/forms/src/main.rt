@@ -1,0 +1,41 @@
+// Runs the forms that carry their state, a stream reader and a record moved on in place, on the logs of standard input and prints
+// what they answer. The input comes from the second implementation, and so does the expected output, by its stream list and its
+// play by value.
+mod input;
+mod print;
+mod runs;
+mod streams;
+
+// The case at a place; answers the place after it.
+fn case(input: &[u8], at: usize) -> usize {
+    let kind = input::word(input, at);
+    let second = input::after(input, at, 4);
+    let size = input::word(input, second) as usize;
+    let third = input::after(input, second, 4);
+    let log = input::part(input, third, size);
+    let fourth = input::after(input, third, size);
+    let n = input::word(input, fourth);
+    let fifth = input::after(input, fourth, 4);
+    if kind == 1 {
+        streams::all(log, n);
+        return fifth;
+    }
+    runs::all(input, fifth, n as usize, log)
+}
+
+fn cases(input: &[u8]) {
+    let mut at = 0;
+    while at < input.len() {
+        let next = case(input, at);
+        if next <= at {
+            return;
+        }
+        at = next;
+    }
+}
+
+fn main() {
+    let mut buffer = [0u8; 262144];
+    let n = io::read_full(0, &mut buffer);
+    cases(&buffer[..n]);
+}

@@ -1,0 +1,36 @@
+// Reads a log from standard input, audits it, plays all of it, and prints what document 01 says: the outcome of each commit record
+// in log order, then the cells ascending; or "refused N at K".
+mod cells;
+mod outcomes;
+
+use answers::Refusal;
+use entries::calls::Checked;
+
+// The log is at most 256 slots, all of them used; the table has room for 2,730 cells.
+fn report(log: &[u8]) {
+    let tail = log.len() / 256;
+    let mut scratch = [0u8; 65520];
+    let l = audit::audit(log, tail, &mut scratch);
+    let a = l.answer;
+    match a {
+        Checked::Refused(r) => {
+            printing::refusal(r);
+            printing::line_end();
+        }
+        Checked::Done => {
+            outcomes::print(log, tail);
+            cells::print(l.record, &scratch);
+        }
+    }
+}
+
+fn main() {
+    let mut buffer = [0u8; 65537];
+    let n = io::read_full(0, &mut buffer);
+    if 65536 < n {
+        printing::refusal(Refusal::Frame);
+        printing::line_end();
+        return;
+    }
+    report(&buffer[..n]);
+}

@@ -1,0 +1,39 @@
+// Words and numbers on standard output, as the programs print them.
+ghost use mathlib.Core.Path.{_≡_};
+use answers::Refusal;
+use answers::Told;
+
+pub fn number(n: u64) {
+    io::print_decimal(1, n);
+}
+
+// The same number in 64 bits.
+pub fn wide(n: u32) -> u64
+    ensures { λ r. ⌜ r ≡ n ⌝ }
+{
+    n as u64
+}
+
+// A space and a number.
+pub fn next(n: u64) {
+    io::write_all(1, b" ");
+    io::print_decimal(1, n);
+}
+
+pub fn line_end() {
+    io::write_all(1, b"\n");
+}
+
+// "refused N at K": the offset told, or "-".
+pub fn refusal(r: Refusal) {
+    io::write_all(1, b"refused ");
+    number(answers::number_of(r) as u64);
+    io::write_all(1, b" at ");
+    let o = answers::offset_of(r);
+    match o {
+        Told::At(k) => number(k.0),
+        Told::Nothing => {
+            io::write_all(1, b"-");
+        }
+    }
+}

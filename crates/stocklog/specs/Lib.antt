@@ -1,0 +1,4 @@
+pub mod Entry
+pub mod Items
+pub mod Numbers
+pub mod Replies

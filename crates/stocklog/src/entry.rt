@@ -1,0 +1,139 @@
+// The calls that read one entry: its fields, one of its headers, where its items lie.
+ghost use mathlib.Core.Path.{_≡_};
+ghost use Rattle.model.specs.Objects.{depots};
+ghost use Rattle.model.specs.Slot.{logOf};
+ghost use Rattle.model.specs.Reading.{entryCall, itemList};
+ghost use Rattle.codec.specs.Marks.{kindOf};
+ghost use Rattle.entries.specs.Answers.{headerOf, infoOf, foundIn};
+ghost use Rattle.stocklog.specs.Replies.{reply, coded, noValues, infoValues, itemsTold, entryReply, nth, headerIn, headerCall, headerValues, headerReply, itemsReply, partSaid};
+ghost use Rattle.stocklog.specs.Numbers.{numbersIn};
+ghost use Rattle.stocklog.specs.Entry.{fewOf};
+use crate::numbers::Numbers;
+use answers::Refusal;
+use codec::marks::Mark;
+use codec::names::Offset;
+use entries::calls::Found;
+use entries::calls::Info;
+use slot::fields::Header;
+
+// The number of a kind.
+fn kind_of(m: Mark) -> u64
+    ensures { λ n. ⌜ n ≡ kindOf m ⌝ }
+{
+    match m {
+        Mark::Update => 1,
+        Mark::Commit => 2,
+        Mark::Decision => 3,
+        Mark::Checkpoint => 4,
+        Mark::Bad => 0,
+    }
+}
+
+// How many of the four headers that the entry call answers count.
+fn few(n: u32) -> u64
+    ensures { λ r. ⌜ r ≡ fewOf n ⌝ }
+{
+    if n < 4 {
+        return n as u64;
+    }
+    4
+}
+
+fn of_entry(f: Found) -> Numbers
+    ensures { λ n. ⌜ numbersIn n ≡ coded infoValues noValues (foundIn f) ⌝ }
+{
+    match f {
+        Found::Entry(i) => {
+            let kind = i.kind;
+            let number = i.number;
+            crate::numbers::done(kind_of(kind), number.0 as u64, few(i.headers))
+        }
+        Found::Refused(r) => crate::numbers::refusal(r, 0, 0, 0),
+    }
+}
+
+// How many items; 0 where it is refused.
+fn items_of(f: Found) -> u64
+    ensures { λ n. ⌜ n ≡ itemsTold (foundIn f) ⌝ }
+{
+    match f {
+        Found::Entry(i) => i.items as u64,
+        Found::Refused(_) => 0,
+    }
+}
+
+// Kind, number and how many headers; in the fifth place how many items.
+#[no_mangle]
+pub extern "C" fn stocklog_entry(log: &[u8], tail: usize, offset: u64, out: &mut [u64; 8]) -> u32
+    ensures { λ r. ⌜ record { number = r; out = now (out .exit) } ≡ entryReply (entryCall depots (logOf (now (log .entry)) tail) offset) ⌝ }
+{
+    let f = entries::calls::entry(log, tail, Offset(offset));
+    crate::numbers::put_eight(out, of_entry(f), items_of(f))
+}
+
+fn of_header(h: Header) -> Numbers
+    ensures { λ n. ⌜ numbersIn n ≡ reply 0 (headerValues (headerOf h)) 0 ⌝ }
+{
+    let id = h.object;
+    crate::numbers::done(id.0 as u64, h.format as u64, h.pointer)
+}
+
+// One of the headers by its place, or 3.
+fn of_place(i: Info, place: u32) -> Numbers
+    ensures { λ n. ⌜ numbersIn n ≡ headerReply (nth (infoOf i .headers) place) ⌝ }
+{
+    if i.headers <= place {
+        return crate::numbers::refusal(Refusal::Request, 0, 0, 0);
+    }
+    match place {
+        0 => of_header(i.first),
+        1 => of_header(i.second),
+        2 => of_header(i.third),
+        3 => of_header(i.fourth),
+        _ => crate::numbers::refusal(Refusal::Request, 0, 0, 0),
+    }
+}
+
+// The same of the entry call's answer.
+fn of_found(f: Found, place: u32) -> Numbers
+    ensures { λ n. ⌜ numbersIn n ≡ headerReply (headerIn (foundIn f) place) ⌝ }
+{
+    match f {
+        Found::Entry(i) => of_place(i, place),
+        Found::Refused(r) => crate::numbers::refusal(r, 0, 0, 0),
+    }
+}
+
+// Object, format and the 8 bytes of a header by its place.
+#[no_mangle]
+pub extern "C" fn stocklog_header(
+    log: &[u8],
+    tail: usize,
+    offset: u64,
+    place: u32,
+    out: &mut [u64; 4],
+) -> u32
+    ensures { λ r. ⌜ record { number = r; out = now (out .exit) } ≡ headerReply (headerCall depots (logOf (now (log .entry)) tail) offset place) ⌝ }
+{
+    let f = entries::calls::entry(log, tail, Offset(offset));
+    crate::numbers::put(out, of_found(f, place))
+}
+
+// Where the items lie in the log: byte position and length. That part of the log's own bytes is the item list.
+#[no_mangle]
+pub extern "C" fn stocklog_items(log: &[u8], tail: usize, offset: u64, out: &mut [u64; 4]) -> u32
+    ensures { λ r. ⌜ record { number = r; out = now (out .exit) } ≡ itemsReply offset (entryCall depots (logOf (now (log .entry)) tail) offset) ⌝ }
+    ensures { λ r. ⌜ partSaid (record { number = r; out = now (out .exit) }) (now (log .entry)) ≡ itemList depots (logOf (now (log .entry)) tail) offset ⌝ }
+{
+    let f = entries::calls::entry(log, tail, Offset(offset));
+    match f {
+        Found::Refused(r) => {
+            return crate::numbers::put(out, crate::numbers::refusal(r, 0, 0, 0));
+        }
+        Found::Entry(i) => {
+            let at = 256 * offset + 56;
+            let n = 16 * (i.items as u64);
+            return crate::numbers::put(out, crate::numbers::done(at, n, 0));
+        }
+    }
+}

@@ -1,0 +1,68 @@
+// An answer as five numbers: the one returned, the three values of `out`, and the offset told or 0.
+ghost use mathlib.Core.Path.{_≡_};
+ghost use Rattle.answers.specs.Refusals.{refusalIn};
+ghost use Rattle.stocklog.specs.Replies.{values, reply, orZero, longer};
+ghost use Rattle.stocklog.specs.Numbers.{numbersIn};
+use answers::Refusal;
+use answers::Told;
+
+pub struct Numbers {
+    pub number: u32,
+    pub first: u64,
+    pub second: u64,
+    pub third: u64,
+    pub offset: u64,
+}
+
+// Done, with three values.
+pub fn done(a: u64, b: u64, c: u64) -> Numbers
+    ensures { λ n. ⌜ numbersIn n ≡ reply 0 (values a b c) 0 ⌝ }
+{
+    Numbers {
+        number: 0,
+        first: a,
+        second: b,
+        third: c,
+        offset: 0,
+    }
+}
+
+// A refusal, with three values.
+pub fn refusal(r: Refusal, a: u64, b: u64, c: u64) -> Numbers
+    ensures { λ n. ⌜ numbersIn n ≡ reply (refusalIn r .number) (values a b c) (orZero (refusalIn r .offset)) ⌝ }
+{
+    let number = answers::number_of(r);
+    let t = answers::offset_of(r);
+    match t {
+        Told::At(o) => Numbers {
+            number: number,
+            first: a,
+            second: b,
+            third: c,
+            offset: o.0,
+        },
+        Told::Nothing => Numbers {
+            number: number,
+            first: a,
+            second: b,
+            third: c,
+            offset: 0,
+        },
+    }
+}
+
+// Writes `out` whole, and answers the number to return.
+pub fn put(out: &mut [u64; 4], n: Numbers) -> u32
+    ensures { λ r. ⌜ record { number = r; out = now (out .exit) } ≡ numbersIn n ⌝ }
+{
+    *out = [n.first, n.second, n.third, n.offset];
+    n.number
+}
+
+// The same for the eight places of the entry call, with the number of items in the fifth.
+pub fn put_eight(out: &mut [u64; 8], n: Numbers, items: u64) -> u32
+    ensures { λ r. ⌜ record { number = r; out = now (out .exit) } ≡ longer (numbersIn n) items ⌝ }
+{
+    *out = [n.first, n.second, n.third, n.offset, items, 0, 0, 0];
+    n.number
+}

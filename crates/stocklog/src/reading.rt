@@ -1,0 +1,46 @@
+// The calls that read a whole log.
+ghost use mathlib.Core.Path.{_≡_};
+ghost use Rattle.model.specs.Objects.{depots};
+ghost use Rattle.model.specs.Slot.{logOf};
+ghost use Rattle.model.specs.Reading.{check, owed};
+ghost use Rattle.entries.specs.Answers.{checkedIn, owedIn};
+ghost use Rattle.stocklog.specs.Replies.{checkReply, owedReply};
+ghost use Rattle.stocklog.specs.Numbers.{numbersIn};
+use crate::numbers::Numbers;
+use entries::calls::Checked;
+use entries::owing::Owed;
+
+fn of_check(c: Checked) -> Numbers
+    ensures { λ n. ⌜ numbersIn n ≡ checkReply (checkedIn c) ⌝ }
+{
+    match c {
+        Checked::Done => crate::numbers::done(0, 0, 0),
+        Checked::Refused(r) => crate::numbers::refusal(r, 0, 0, 0),
+    }
+}
+
+// The frame and every entry below the tail.
+#[no_mangle]
+pub extern "C" fn stocklog_check(log: &[u8], tail: usize, out: &mut [u64; 4]) -> u32
+    ensures { λ r. ⌜ record { number = r; out = now (out .exit) } ≡ checkReply (check depots (logOf (now (log .entry)) tail)) ⌝ }
+{
+    crate::numbers::put(out, of_check(entries::calls::check(log, tail)))
+}
+
+fn of_owed(o: Owed) -> Numbers
+    ensures { λ n. ⌜ numbersIn n ≡ owedReply (owedIn o) ⌝ }
+{
+    match o {
+        Owed::At(q) => crate::numbers::done(1, q.0, 0),
+        Owed::Nothing => crate::numbers::done(0, 0, 0),
+        Owed::Refused(r) => crate::numbers::refusal(r, 0, 0, 0),
+    }
+}
+
+// 1 and the lowest offset that owes a decision record; or 0.
+#[no_mangle]
+pub extern "C" fn stocklog_owed(log: &[u8], tail: usize, out: &mut [u64; 4]) -> u32
+    ensures { λ r. ⌜ record { number = r; out = now (out .exit) } ≡ owedReply (owed depots (logOf (now (log .entry)) tail)) ⌝ }
+{
+    crate::numbers::put(out, of_owed(entries::owing::lowest_owing(log, tail)))
+}

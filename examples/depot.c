@@ -1,0 +1,245 @@
+/*
+ * A depot's day on the shared stock log, over the C interface: plain updates, two transactions that read the same cell, a decision
+ * record, a van's replica that waits for it and goes on, a checkpoint, and the audit. examples/run compiles it, runs it and
+ * compares what it prints with examples/depot.expected.
+ */
+#include "stocklog.h"
+
+#include <stdio.h>
+#include <string.h>
+
+enum { SLOTS = 16, CELLS = 32, NORTH = 2, VAN = 4, ORDERS = 5, PRICES = 7, FILTER = 7 };
+
+static uint8_t log_bytes[SLOTS * STOCKLOG_SLOT_SIZE];
+static uint64_t tail = 0;
+
+/* ---- items: 16 bytes each, most significant byte first ---- */
+
+struct items {
+    uint8_t bytes[STOCKLOG_MOST_ITEMS * STOCKLOG_ITEM_SIZE];
+    size_t len;
+};
+
+static void number(struct items *items, uint64_t value, int bytes)
+{
+    while (bytes-- > 0)
+        items->bytes[items->len++] = (uint8_t)(value >> (8 * bytes));
+}
+
+static void put(struct items *items, uint32_t object, uint32_t key, uint32_t value)
+{
+    number(items, object, 4);
+    number(items, key, 4);
+    number(items, STOCKLOG_PUT, 4);
+    number(items, value, 4);
+}
+
+static void seen(struct items *items, uint32_t object, uint32_t key, uint64_t version)
+{
+    number(items, object, 4);
+    number(items, key, 4);
+    number(items, version, 8);
+}
+
+/* ---- appends: each goes on from the tail that the last one answered ---- */
+
+static void appended(const char *what, uint32_t result, const uint64_t out[4])
+{
+    if (result == STOCKLOG_DONE) {
+        printf("%s: offset %llu\n", what, (unsigned long long)tail);
+        tail = out[0];
+    } else {
+        printf("%s: refused %lu\n", what, (unsigned long)result);
+    }
+}
+
+static void update(const char *what, uint32_t transaction, const struct items *items)
+{
+    uint64_t out[4];
+    appended(what, stocklog_append_update(log_bytes, sizeof log_bytes, tail, transaction, items->bytes, items->len, out), out);
+}
+
+static void commit(const char *what, uint32_t transaction, const struct items *reads)
+{
+    uint64_t out[4];
+    appended(what, stocklog_append_commit(log_bytes, sizeof log_bytes, tail, transaction, reads->bytes, reads->len, out), out);
+}
+
+/* ---- replicas: the record is three numbers that the caller keeps, the table is the caller's memory ---- */
+
+struct replica {
+    uint8_t hosted;
+    uint64_t position, count;
+    uint8_t table[CELLS * STOCKLOG_CELL_SIZE];
+};
+
+static void keep(struct replica *r, const uint64_t out[4])
+{
+    r->hosted = (uint8_t)out[0];
+    r->position = out[1];
+    r->count = out[2];
+}
+
+static void open_fresh(struct replica *r, uint8_t hosted)
+{
+    uint64_t out[4];
+    if (stocklog_open_fresh(hosted, out) == STOCKLOG_DONE)
+        keep(r, out);
+}
+
+/* Plays to the tail. Whatever the answer, out has the record to go on with. */
+static void play(const char *whose, struct replica *r)
+{
+    uint64_t out[4];
+    uint32_t result = stocklog_play(log_bytes, sizeof log_bytes, tail, r->hosted, r->position, r->count,
+                                    r->table, sizeof r->table, tail, out);
+    const char *said = result == STOCKLOG_DONE ? "done" : result == STOCKLOG_WAITING ? "waits" : "refused";
+    keep(r, out);
+    printf("%s plays: %s at %llu, cells %llu\n", whose, said, (unsigned long long)r->position, (unsigned long long)r->count);
+}
+
+static void show(const char *whose, const struct replica *r, uint32_t object, uint32_t key)
+{
+    uint64_t out[4];
+    uint32_t result =
+        stocklog_read_cell(r->hosted, r->position, r->count, r->table, sizeof r->table, object, key, out);
+    printf("%s shows (%lu, %lu): ", whose, (unsigned long)object, (unsigned long)key);
+    if (result != STOCKLOG_DONE)
+        printf("refused %lu\n", (unsigned long)result);
+    else if (out[0] == STOCKLOG_NEVER_WRITTEN)
+        printf("never written\n");
+    else if (out[0] == STOCKLOG_REMOVED)
+        printf("removed, version %llu\n", (unsigned long long)out[2]);
+    else
+        printf("%llu, version %llu\n", (unsigned long long)out[1], (unsigned long long)out[2]);
+}
+
+static uint64_t owed(void)
+{
+    uint64_t out[4];
+    stocklog_owed(log_bytes, sizeof log_bytes, tail, out);
+    if (out[0] == 0)
+        printf("no decision is owed\n");
+    else
+        printf("a decision is owed for the commit record at %llu\n", (unsigned long long)out[1]);
+    return out[1];
+}
+
+static void audit(const char *what, const uint8_t *log, uint64_t upto)
+{
+    static uint8_t scratch[CELLS * STOCKLOG_CELL_SIZE];
+    uint64_t out[4];
+    uint32_t result = stocklog_audit(log, SLOTS * STOCKLOG_SLOT_SIZE, upto, scratch, sizeof scratch, out);
+    if (result == STOCKLOG_DONE)
+        printf("%s: passes, cells %llu, at %llu\n", what, (unsigned long long)out[2], (unsigned long long)out[1]);
+    else
+        printf("%s: refused %lu at %llu\n", what, (unsigned long)result, (unsigned long long)out[3]);
+}
+
+static void entry(uint64_t offset)
+{
+    static const char *const kinds[] = {"none", "update", "commit", "decision", "checkpoint"};
+    uint64_t info[8], out[4];
+    uint32_t place;
+    if (stocklog_entry(log_bytes, sizeof log_bytes, tail, offset, info) != STOCKLOG_DONE)
+        return;
+    printf("entry %llu: %s, number %llu, %llu items", (unsigned long long)offset, kinds[info[0]],
+           (unsigned long long)info[1], (unsigned long long)info[4]);
+    for (place = 0; place < info[2]; place++)
+        if (stocklog_header(log_bytes, sizeof log_bytes, tail, offset, place, out) == STOCKLOG_DONE)
+            printf(", object %llu back %llu", (unsigned long long)out[0], (unsigned long long)(out[2] >> 48));
+    stocklog_items(log_bytes, sizeof log_bytes, tail, offset, out);
+    printf(", items at byte %llu\n", (unsigned long long)out[0]);
+}
+
+static void stream(uint32_t object)
+{
+    uint64_t out[4];
+    uint64_t reader = 0;
+    uint32_t list[SLOTS];
+    printf("entries of object %lu:", (unsigned long)object);
+    while (stocklog_stream_next(log_bytes, sizeof log_bytes, tail, object, reader, out) == STOCKLOG_DONE && out[0] == 1) {
+        printf(" %llu", (unsigned long long)out[1]);
+        reader = out[2];
+    }
+    if (stocklog_stream_list(log_bytes, sizeof log_bytes, tail, object, list, SLOTS, out) == STOCKLOG_DONE)
+        printf(", %llu by the list\n", (unsigned long long)out[0]);
+}
+
+/* The log with one decision more, which is not true. */
+static void liar(uint64_t commit_record)
+{
+    static uint8_t copy[sizeof log_bytes];
+    uint64_t out[4];
+    memcpy(copy, log_bytes, sizeof copy);
+    if (stocklog_append_decision(copy, sizeof copy, tail, commit_record, STOCKLOG_COMMITTED, out) == STOCKLOG_DONE)
+        audit("with a false decision, the audit", copy, out[0]);
+}
+
+int main(void)
+{
+    static struct replica depot, van, second;
+    struct items morning = {{0}, 0}, moves = {{0}, 0}, orders = {{0}, 0}, read9 = {{0}, 0}, read10 = {{0}, 0};
+    uint64_t out[4], first_commit, second_commit, checkpoint;
+
+    /* The morning's counts: 43 filters in the north depot, 6 in the van; price list 12. */
+    put(&morning, NORTH, FILTER, 43);
+    put(&morning, VAN, FILTER, 6);
+    put(&morning, PRICES, 0, 12);
+    update("counts", 0, &morning);
+
+    /* Transaction 9 moves a filter to the van; transaction 10 takes three for an order. Both saw the 43, at version 1. */
+    put(&moves, NORTH, FILTER, 42);
+    put(&moves, VAN, FILTER, 7);
+    update("transaction 9 sets aside", 9, &moves);
+    put(&orders, NORTH, FILTER, 40);
+    put(&orders, ORDERS, FILTER, 3);
+    update("transaction 10 sets aside", 10, &orders);
+    seen(&read9, NORTH, FILTER, 1);
+    seen(&read9, VAN, FILTER, 1);
+    first_commit = tail;
+    commit("transaction 9 commits", 9, &read9);
+    seen(&read10, NORTH, FILTER, 1);
+    second_commit = tail;
+    commit("transaction 10 commits", 10, &read10);
+    update("transaction 9 once more", 9, &moves);
+
+    /* The depot hosts all eight objects and decides by its own cells: 9 went through, so 10 read a stale count. */
+    open_fresh(&depot, 0xff);
+    play("the depot", &depot);
+    show("the depot", &depot, NORTH, FILTER);
+    show("the depot", &depot, ORDERS, FILTER);
+
+    /* The van hosts its own stock alone. It cannot judge transaction 9, which read the north depot's cell too: it waits. */
+    open_fresh(&van, 1 << (VAN - 1));
+    play("the van", &van);
+    show("the van", &van, VAN, FILTER);
+    show("the van", &van, NORTH, FILTER);
+
+    /* The van's stock is a marked object, so that commit record owes a decision; the depot gives it, and the van goes on. */
+    if (owed() == first_commit)
+        appended("the depot decides",
+                 stocklog_append_decision(log_bytes, sizeof log_bytes, tail, first_commit, STOCKLOG_COMMITTED, out), out);
+    owed();
+    play("the van", &van);
+    show("the van", &van, VAN, FILTER);
+
+    /* The evening: a checkpoint of the van's stock, from which a second van starts. */
+    play("the depot", &depot);
+    checkpoint = tail;
+    appended("checkpoint",
+             stocklog_append_checkpoint(log_bytes, sizeof log_bytes, tail, depot.hosted, depot.position, depot.count,
+                                        depot.table, sizeof depot.table, VAN, out),
+             out);
+    if (stocklog_open_checkpoint(log_bytes, sizeof log_bytes, tail, checkpoint,
+                                 second.table, sizeof second.table, out) == STOCKLOG_DONE)
+        keep(&second, out);
+    show("the second van", &second, VAN, FILTER);
+
+    /* What the log has, and whether every decision and checkpoint is as played. */
+    entry(first_commit);
+    stream(VAN);
+    audit("the audit", log_bytes, tail);
+    liar(second_commit);
+    return 0;
+}

@@ -1,0 +1,235 @@
+/*
+ * stocklog.h - the shared stock log: append, read, play and audit over lent memory.
+ *
+ * Every function here is proved against the definitions in crates/model/specs: for any bytes and numbers it ends, touches
+ * nothing but what is lent to it, and either does its work or returns one of the refusals below.
+ *
+ * CONVENTION, the same for all calls
+ *
+ * - A slice is a pointer and a length in elements, in that order. An empty slice may have any pointer.
+ * - The result is STOCKLOG_DONE, or the number of a refusal.
+ * - The last argument, out, is written whole on every return, whatever was in it: values in out[0] to out[2], and in out[3] the
+ *   offset told by STOCKLOG_BAD_ENTRY, by STOCKLOG_FALSE_RECORD and by the audit's STOCKLOG_NO_ROOM. A place in which nothing
+ *   is said is 0. So out[3] is 0 for every other answer; it is also 0 where the offset told is 0: the result tells the two apart.
+ *   Unless a call's text says otherwise, out[0] to out[2] are 0 where the call is refused.
+ * - What a call writes (the log of an append, a table, a list, out) must not overlap anything else that is handed to it. What it
+ *   only reads may overlap. Nothing else is asked of the caller: no alignment of byte slices, no range of a number.
+ * - No call keeps a pointer, allocates, has state of its own, or waits. Calls from several threads are safe as long as none of
+ *   them writes what another uses.
+ * - Stack: STOCKLOG_STACK bytes are enough for any call.
+ *
+ * THE LOG is a slice of 256-byte slots, at most 131,072 of them; tail counts the used ones. The caller keeps the tail: 0 for a
+ * new log (whose bytes may be anything), then what each append answers. Slots at and above the tail are neither read nor judged.
+ * Integers in slots, items and tables are unsigned and stored most significant byte first.
+ *
+ * OBJECTS, each of which is one stream. Keys go from 0 to the highest; a register has key 0 alone.
+ *   1 filters used, by patient  9999  marked     5 orders, by item    9999
+ *   2 north depot stock          499             6 next order number     0  marked
+ *   3 south depot stock          499  marked     7 price list number     0
+ *   4 van stock                  499  marked     8 last stocktake        0
+ *
+ * ITEMS are 16 bytes each:
+ *   a write: object 4, key 4, operation 4 (1 put, 2 remove), value 4 (0 for remove)
+ *   a read:  object 4, key 4, version 8; strictly ascending by object, then key
+ *   a decision: offset 8, outcome 4, 4 zero
+ *   a checkpoint's cell: key 4, value 4, version 8 (the top bit set for a removed cell)
+ *
+ * A VERSION is one more than the offset of the entry that last changed a cell; 0 for a cell never written. A removed cell has one.
+ *
+ * A REPLICA is a record of three numbers, which the caller keeps and hands over: the hosted set (one byte: bit 0 for object 1, up
+ * to bit 7 for object 8), the position, and the count of cells; and a lent table of 24-byte cells: object 4, key 4, value 4 (0 if
+ * removed), present 4 (1 or 0), version 8, in order of first writing. Its capacity is table_len / 24. Bytes past the counted
+ * cells are not touched.
+ */
+#ifndef STOCKLOG_H
+#define STOCKLOG_H
+
+#include <stddef.h>
+#include <stdint.h>
+
+#ifdef __cplusplus
+extern "C" {
+#endif
+
+/* The result of every call. "Left behind" is said at each call; with 1 to 10 and 14 nothing is changed, whatever the call. */
+enum {
+    STOCKLOG_DONE = 0,
+    STOCKLOG_FRAME = 1,         /* log_len not whole slots, over 131,072 slots, or tail above the slots */
+    STOCKLOG_BAD_ENTRY = 2,     /* an entry below the tail breaks the slot rules; out[3]: the lowest such offset */
+    STOCKLOG_BAD_REQUEST = 3,   /* an argument breaks the slot rules or is out of range: see each call */
+    STOCKLOG_CLOSED = 4,        /* the number has a commit record */
+    STOCKLOG_WIDE = 5,          /* the update, or its transaction with it, names over four objects */
+    STOCKLOG_EMPTY = 6,         /* a commit without an update */
+    STOCKLOG_NO_COMMIT = 7,     /* a decision for an entry that is no commit record */
+    STOCKLOG_DECIDED = 8,       /* the commit record has a decision record */
+    STOCKLOG_FULL = 9,          /* tail equals the slots */
+    STOCKLOG_BAD_REPLICA = 10,  /* hosted set 0, count over the table's capacity, or position over the tail */
+    STOCKLOG_FALSE_RECORD = 11, /* audit: a decision or checkpoint is not as played; out[3]: the lowest such offset */
+    STOCKLOG_WAITING = 12,      /* play: a commit record whose reads are not all hosted, with no decision record yet */
+    STOCKLOG_NO_ROOM = 13,      /* more new cells than the table has room for, more offsets than the list, or more than
+                                   12 cells for a checkpoint; from the audit, out[3]: the entry's offset */
+    STOCKLOG_BEHIND = 14        /* a checkpoint from a replica that is not at the tail */
+};
+
+/* Kinds of entry, as stocklog_entry says them. */
+enum { STOCKLOG_UPDATE = 1, STOCKLOG_COMMIT = 2, STOCKLOG_DECISION = 3, STOCKLOG_CHECKPOINT = 4 };
+
+/* Operations of a write, and outcomes of a decision. */
+enum { STOCKLOG_PUT = 1, STOCKLOG_REMOVE = 2 };
+enum { STOCKLOG_COMMITTED = 1, STOCKLOG_ABORTED = 2 };
+
+/* What stocklog_read_cell found, in out[0]. */
+enum { STOCKLOG_NEVER_WRITTEN = 0, STOCKLOG_HOLDS = 1, STOCKLOG_REMOVED = 2 };
+
+/* Sizes in bytes, and limits. */
+enum {
+    STOCKLOG_SLOT_SIZE = 256,
+    STOCKLOG_ITEM_SIZE = 16,
+    STOCKLOG_CELL_SIZE = 24,
+    STOCKLOG_MOST_SLOTS = 131072,
+    STOCKLOG_MOST_ITEMS = 12
+};
+
+/*
+ * Bytes of stack that are enough for any call, from its entry on, on x86-64. No call recurses, and its arrays have fixed
+ * lengths, so its use does not depend on the log. tools/stack adds it up from the archive's machine code (frames along the
+ * calls, and 16 KiB for memset and memcpy) and fails above this bound.
+ */
+enum { STOCKLOG_STACK = 2097152 };
+
+/* ---- Reading a log. Nothing lent is changed, but for out and the list of stocklog_stream_list. ---- */
+
+/* Judges the frame and every entry below the tail. Refusals, in this order: 1, 2. */
+uint32_t stocklog_check(const uint8_t *log, size_t log_len, uint64_t tail, uint64_t out[4]);
+
+/*
+ * The lowest commit record that owes a decision record: it reads a marked object and no decision names it.
+ * Done: out[0] is 1 and out[1] its offset; or out[0] and out[1] are 0 where none owes. Refusals: 1, 2.
+ */
+uint32_t stocklog_owed(const uint8_t *log, size_t log_len, uint64_t tail, uint64_t out[4]);
+
+/*
+ * The entry at an offset. Note the eight places of out.
+ * Done: out[0] its kind (STOCKLOG_UPDATE ..), out[1] its transaction number (0 is none), out[2] how many headers, out[4] how many
+ * items. Refused: out[3] as everywhere, the others 0. Refusals: 1, 2, 3 (offset not below the tail).
+ */
+uint32_t stocklog_entry(const uint8_t *log, size_t log_len, uint64_t tail, uint64_t offset, uint64_t out[8]);
+
+/*
+ * One stream header of the entry at an offset, by its place from 0.
+ * Done: out[0] the object, out[1] the pointer format, out[2] the stored 8 bytes as one number: with format 0 four 2-byte distances
+ * back, the nearest in the top 16 bits, 0 where there is none; with format 1 the nearest earlier entry's offset.
+ * Refusals: 1, 2, 3 (offset not below the tail, or place not below the number of headers).
+ */
+uint32_t stocklog_header(
+    const uint8_t *log, size_t log_len, uint64_t tail, uint64_t offset, uint32_t place, uint64_t out[4]);
+
+/*
+ * Where the items of the entry at an offset lie in the log's own bytes.
+ * Done: out[0] their byte position in the log, out[1] their length in bytes. Refused: 0, 0.
+ * Refusals: 1, 2, 3 (offset not below the tail).
+ */
+uint32_t stocklog_items(const uint8_t *log, size_t log_len, uint64_t tail, uint64_t offset, uint64_t out[4]);
+
+/*
+ * A stream reader's next: the lowest entry of an object at or above offset from.
+ * Done: out[0] 1, out[1] the entry's offset, out[2] the reader's next offset (one past it); or, at the end, 0, 0 and the tail.
+ * Refused: 0, 0, from. Refusals: 1, 2, 3 (an object that is none of the eight, or from above the tail).
+ */
+uint32_t stocklog_stream_next(
+    const uint8_t *log, size_t log_len, uint64_t tail, uint32_t object, uint64_t from, uint64_t out[4]);
+
+/*
+ * All offsets of an object's entries, ascending, into the start of list; the rest of the list is untouched.
+ * Done: out[0] how many. Refused: the list is untouched. Refusals: 1, 2, 3 (an object that is none of the eight),
+ * 13 (more offsets than list_len).
+ */
+uint32_t stocklog_stream_list(
+    const uint8_t *log, size_t log_len, uint64_t tail, uint32_t object, uint32_t *list, size_t list_len,
+    uint64_t out[4]);
+
+/* ---- Appending. Done: out[0] is the new tail, and exactly the 256 bytes of the slot at the old tail are written. ----
+ * ---- Refused: no byte of the log is changed.                                                                     ---- */
+
+/*
+ * An update of 1 to 12 writes. Number 0 is a plain update, which is made at once; any other number sets the writes aside for its
+ * commit record. Refusals: 1, 2, 3 (items_len not 16 times 1 to 12; a write's object, key, operation or value), 5 (the update
+ * names over four objects), 4, 5 (its transaction does, with it), 9.
+ */
+uint32_t stocklog_append_update(
+    uint8_t *log, size_t log_len, uint64_t tail, uint32_t number, const uint8_t *items, size_t items_len,
+    uint64_t out[4]);
+
+/*
+ * A commit record with 0 to 12 reads: the transaction commits where every read's version is the cell's version there.
+ * Refusals: 1, 2, 3 (number 0; reads_len not 16 times 0 to 12; a read's object or key; a version above the tail; reads not
+ * strictly ascending), 4, 6, 9.
+ */
+uint32_t stocklog_append_commit(
+    uint8_t *log, size_t log_len, uint64_t tail, uint32_t number, const uint8_t *reads, size_t reads_len,
+    uint64_t out[4]);
+
+/*
+ * A decision record: the outcome (STOCKLOG_COMMITTED or STOCKLOG_ABORTED) of the commit record at an offset. Whether it is true is
+ * for the audit. Refusals: 1, 2, 3 (offset not below the tail, or another outcome), 7, 8, 9.
+ */
+uint32_t stocklog_append_decision(
+    uint8_t *log, size_t log_len, uint64_t tail, uint64_t offset, uint32_t outcome, uint64_t out[4]);
+
+/*
+ * A checkpoint: every cell of one object that a replica at the tail has. The table is only read.
+ * Refusals: 1, 2, 10, 3 (object none of the eight or not hosted; a cell of it, up to the count, whose key is over the highest or
+ * whose version is not 1 to the tail), 14, 13 (over 12 cells), 9.
+ */
+uint32_t stocklog_append_checkpoint(
+    uint8_t *log, size_t log_len, uint64_t tail, uint8_t hosted, uint64_t position, uint64_t count,
+    const uint8_t *table, size_t table_len, uint32_t object, uint64_t out[4]);
+
+/* ---- Replicas. Where a call answers a record, out[0] is the hosted set, out[1] the position, out[2] the count of cells. ---- */
+
+/* A replica of a set of objects at offset 0, with no cells: any table serves it. Done: the record. Refusals: 10 (hosted 0). */
+uint32_t stocklog_open_fresh(uint8_t hosted, uint64_t out[4]);
+
+/*
+ * A replica opened at the checkpoint at an offset: it hosts that object alone, from the next offset, its cells in key order.
+ * Done: the record; its cells are written to the start of the table. Refused: 0, 0, 0, and the table is unchanged.
+ * Refusals: 1, 2, 3 (offset not below the tail, or no checkpoint there), 13 (more cells than the table's capacity).
+ */
+uint32_t stocklog_open_checkpoint(
+    const uint8_t *log, size_t log_len, uint64_t tail, uint64_t offset, uint8_t *table, size_t table_len,
+    uint64_t out[4]);
+
+/*
+ * Plays a replica from its position to a stop. Whatever the answer, out has the record to go on with.
+ * Done: the record at the stop. 12: the record at the commit record that it waits for; 13: at the entry that has no room; in both
+ * cases the table shows all entries below that position and nothing of the one there. Any other refusal: the record as it
+ * was given, the table unchanged. Refusals: 1, 2, 10, 3 (stop above the tail, or below the position), then at an entry 12
+ * before 13. 13 tells no offset here: it is the record's position.
+ */
+uint32_t stocklog_play(
+    const uint8_t *log, size_t log_len, uint64_t tail, uint8_t hosted, uint64_t position, uint64_t count,
+    uint8_t *table, size_t table_len, uint64_t stop, uint64_t out[4]);
+
+/*
+ * What a replica shows for a cell.
+ * Done: out[0] STOCKLOG_NEVER_WRITTEN, and 0, 0; or STOCKLOG_HOLDS, the value and the version; or STOCKLOG_REMOVED, 0 and the
+ * version. Refusals: 10 (there is no tail, so the position is not tested), 3 (object not hosted, or key over its highest).
+ */
+uint32_t stocklog_read_cell(
+    uint8_t hosted, uint64_t position, uint64_t count, const uint8_t *table, size_t table_len,
+    uint32_t object, uint32_t key, uint64_t out[4]);
+
+/*
+ * The audit: plays every object from offset 0 over a scratch table, and compares each decision and each checkpoint with the play.
+ * Done: the record at the tail, as for a replica of all eight objects with the scratch as its table. 11: the same, and out[3] the
+ * lowest decision or checkpoint that is not as played. 13: the record at the entry that has no room, whose offset out[3] tells
+ * too; the scratch shows all entries below it. 1, 2: 0, 0, 0, the scratch unchanged. Refusals: 1, 2, 13, 11.
+ */
+uint32_t stocklog_audit(
+    const uint8_t *log, size_t log_len, uint64_t tail, uint8_t *scratch, size_t scratch_len, uint64_t out[4]);
+
+#ifdef __cplusplus
+}
+#endif
+
+#endif

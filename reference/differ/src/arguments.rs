@@ -1,0 +1,296 @@
+//! Random arguments: mostly such as have a meaning for the log, some just outside, some of any kind.
+
+use reference::append::Request;
+use reference::objects::object as listed;
+use reference::random::{edge, junk, Random};
+use reference::replica::Record;
+use reference::sample::{commit, put, read, remove, table_of, update};
+use reference::slot::{Read, Write};
+use reference::table::{Row, CELL};
+
+use crate::calls::Call;
+
+/// A log as a caller knows it.
+#[derive(Clone, Copy, Debug)]
+pub struct Seen {
+    pub tail: u64,
+    pub slots: u64,
+    /// How many keys of each object are in use.
+    pub keys: u32,
+}
+
+/// A number below the second bound, or, at that chance in percent, below the first.
+pub fn mostly(random: &mut Random, chance: u64, first: u64, second: u64) -> u64 {
+    let bound = match random.percent(chance) {
+        true => first,
+        false => second,
+    };
+    random.below(bound)
+}
+
+/// An offset, mostly below the tail.
+pub fn offset(random: &mut Random, tail: u64) -> u64 {
+    match random.below(20) {
+        0..=14 => random.below(tail),
+        15..=16 => tail,
+        17 => tail + 1,
+        _ => edge(random),
+    }
+}
+
+/// A tail, mostly the log's or an older one.
+pub fn tail(random: &mut Random, seen: Seen) -> u64 {
+    match random.below(25) {
+        0..=14 => seen.tail,
+        15..=21 => random.below(seen.tail + 1),
+        22 => seen.slots,
+        23 => seen.slots + 1,
+        _ => edge(random),
+    }
+}
+
+/// An object's id, mostly of the list.
+pub fn object(random: &mut Random) -> u32 {
+    match random.below(16) {
+        0 => 0,
+        1 => random
+            .pick(&[9, 10, 261, 0x8000_0002, 0xFFFF_FFFF])
+            .unwrap_or(9),
+        _ => 1 + random.below(8) as u32,
+    }
+}
+
+/// A key, mostly one in use.
+pub fn key(random: &mut Random, object: u32, keys: u32) -> u32 {
+    let highest = listed(object).map_or(0, |object| object.highest_key);
+    match random.below(16) {
+        0 => highest,
+        1 => highest + 1,
+        2 => edge(random) as u32,
+        _ => random.below(u64::from(keys.min(highest + 1))) as u32,
+    }
+}
+
+fn version(random: &mut Random, tail: u64) -> u64 {
+    match random.below(12) {
+        0 => tail,
+        1 => tail + 1,
+        2 => edge(random),
+        _ => random.below(tail + 1),
+    }
+}
+
+/// A table of rows of any kind, repeated cells and odd present fields among them, with some bytes more.
+pub fn table(random: &mut Random, seen: Seen) -> Vec<u8> {
+    if random.percent(15) {
+        return junk(random, 130);
+    }
+    let count = mostly(random, 10, 40, 9);
+    let mut rows: Vec<Row> = Vec::new();
+    for _ in 0..count {
+        let row = match random.pick(&rows) {
+            Some(row) if random.percent(20) => Row {
+                value: random.below(9) as u32,
+                version: version(random, seen.tail),
+                ..row
+            },
+            _ => row(random, seen),
+        };
+        rows.push(row);
+    }
+    let mut table = table_of(&rows);
+    table.resize(table.len() + random.below(60) as usize, 0xEE);
+    table
+}
+
+fn row(random: &mut Random, seen: Seen) -> Row {
+    let object = object(random);
+    let present = match random.below(10) {
+        0..=5 => 1,
+        6..=7 => 0,
+        _ => random.number() as u32,
+    };
+    Row {
+        object,
+        key: key(random, object, seen.keys),
+        value: random.below(5) as u32,
+        present,
+        version: version(random, seen.tail),
+    }
+}
+
+/// A hosted set: one object, all, any.
+pub fn hosted(random: &mut Random) -> u8 {
+    match random.below(12) {
+        0..=3 => 1 << random.below(8),
+        4..=5 => 0xFF,
+        6 => 0,
+        _ => random.number() as u8,
+    }
+}
+
+/// A record for a table, mostly a good one.
+pub fn record(random: &mut Random, tail: u64, table: &[u8]) -> Record {
+    let capacity = (table.len() / CELL) as u64;
+    Record {
+        hosted: hosted(random),
+        position: match random.below(10) {
+            0..=3 => random.below(tail + 1),
+            4..=7 => tail,
+            8 => tail + 1,
+            _ => edge(random),
+        },
+        count: match random.below(12) {
+            0..=5 => capacity,
+            6..=9 => random.below(capacity + 1),
+            10 => capacity + 1,
+            _ => edge(random),
+        },
+    }
+}
+
+fn write(random: &mut Random, keys: u32) -> Write {
+    let object = object(random);
+    let key = key(random, object, keys);
+    match random.below(12) {
+        0..=1 => remove(object, key),
+        2 => Write {
+            operation: edge(random) as u32,
+            ..put(object, key, 0)
+        },
+        3 => Write {
+            value: 1,
+            ..remove(object, key)
+        },
+        _ => put(object, key, random.number() as u32),
+    }
+}
+
+/// Reads, mostly ascending.
+fn reads(random: &mut Random, seen: Seen) -> Vec<Read> {
+    let count = mostly(random, 10, 15, 4);
+    let mut reads: Vec<Read> = (0..count)
+        .map(|_| {
+            let object = object(random);
+            let key = key(random, object, seen.keys);
+            read(object, key, version(random, seen.tail))
+        })
+        .collect();
+    if random.percent(85) {
+        reads.sort_by_key(|read| (read.object, read.key));
+        reads.dedup_by_key(|read| (read.object, read.key));
+    }
+    reads
+}
+
+fn number(random: &mut Random, tail: u64) -> u32 {
+    match random.below(8) {
+        0 => 0,
+        1 => edge(random) as u32,
+        _ => 1 + random.below(tail / 2 + 2) as u32,
+    }
+}
+
+/// An append whose arguments may be anything.
+pub fn append(random: &mut Random, seen: Seen, kind: u64) -> Request {
+    match kind {
+        0 if random.percent(10) => Request::Update {
+            number: number(random, seen.tail),
+            items: junk(random, 250),
+        },
+        0 => {
+            let count = mostly(random, 10, 15, 4);
+            let writes: Vec<Write> = (0..count).map(|_| write(random, seen.keys)).collect();
+            update(number(random, seen.tail), &writes)
+        }
+        1 if random.percent(10) => Request::Commit {
+            number: number(random, seen.tail),
+            reads: junk(random, 250),
+        },
+        1 => {
+            let reads = reads(random, seen);
+            commit(number(random, seen.tail), &reads)
+        }
+        2 => Request::Decision {
+            offset: offset(random, seen.tail),
+            outcome: match random.below(10) {
+                0 => edge(random) as u32,
+                _ => 1 + random.below(2) as u32,
+            },
+        },
+        _ => {
+            let table = table(random, seen);
+            Request::Checkpoint {
+                record: record(random, seen.tail, &table),
+                table,
+                object: object(random),
+            }
+        }
+    }
+}
+
+/// Any call, by its place among the names.
+pub fn call(random: &mut Random, seen: Seen, place: usize) -> Call {
+    let tail = seen.tail;
+    match place {
+        0 => Call::Check,
+        1 => Call::Owed,
+        2 => Call::Entry {
+            offset: offset(random, tail),
+        },
+        3 => Call::Header {
+            offset: offset(random, tail),
+            place: match random.below(10) {
+                0 => edge(random) as u32,
+                _ => random.below(5) as u32,
+            },
+        },
+        4 => Call::Items {
+            offset: offset(random, tail),
+        },
+        5 => Call::StreamNext {
+            object: object(random),
+            from: offset(random, tail),
+        },
+        6 => Call::StreamList {
+            object: object(random),
+            list: vec![0xABCD_EF01; random.below(tail / 2 + 4) as usize],
+        },
+        7..=10 => Call::Append(append(random, seen, place as u64 - 7)),
+        11 => Call::OpenFresh {
+            hosted: hosted(random),
+        },
+        12 => Call::OpenCheckpoint {
+            offset: offset(random, tail),
+            table: table(random, seen),
+        },
+        13 => {
+            let table = table(random, seen);
+            let record = record(random, tail, &table);
+            let stop = match random.below(10) {
+                0 => edge(random),
+                1 => tail + 1,
+                2..=5 => tail,
+                _ => record.position.saturating_add(random.below(8)).min(tail),
+            };
+            Call::Play {
+                record,
+                table,
+                stop,
+            }
+        }
+        14 => {
+            let table = table(random, seen);
+            let object = object(random);
+            Call::ReadCell {
+                record: record(random, tail, &table),
+                table,
+                object,
+                key: key(random, object, seen.keys),
+            }
+        }
+        _ => Call::Audit {
+            scratch: vec![0xD5; random.below(seen.tail * 40 + 100) as usize],
+        },
+    }
+}

@@ -1,0 +1,126 @@
+//! What the run has met: each number of each call, and some cases of their own.
+
+use std::collections::BTreeMap;
+
+use reference::append::Request;
+use reference::boundary::Said;
+use reference::rules::objects_written;
+use reference::slot::{slot_at, writes_in, Kind};
+
+use crate::calls::{Call, NAMES};
+
+/// Cases that must be met beside the numbers.
+pub const CASES: [&str; 20] = [
+    "owed: an offset",
+    "owed: none",
+    "entry: update",
+    "entry: commit",
+    "entry: decision",
+    "entry: checkpoint",
+    "header: format 0",
+    "stream_next: an entry",
+    "stream_next: the end",
+    "append_update: 5 for its own objects",
+    "append_update: 5 for its transaction",
+    "read_cell: never written",
+    "read_cell: a value",
+    "read_cell: removed",
+    "play: 12 past other entries",
+    "play: 13 past other entries",
+    "play: on from a later position",
+    "audit: 11 at a decision",
+    "audit: 11 at a checkpoint",
+    "audit: 13 past other entries",
+];
+
+/// Met on far logs alone.
+pub const FAR_CASE: &str = "header: format 1";
+
+#[derive(Default)]
+pub struct Cover {
+    numbers: [[u64; 16]; 16],
+    cases: BTreeMap<&'static str, u64>,
+    pub calls: u64,
+}
+
+impl Cover {
+    /// Takes in a call, as it was before, and its answer.
+    pub fn note(&mut self, log: &[u8], call: &Call, said: &Said) {
+        self.calls += 1;
+        let number = (said.number as usize).min(15);
+        self.numbers[call.place()][number] += 1;
+        if let Some(case) = case_of(log, call, said) {
+            *self.cases.entry(case).or_default() += 1;
+        }
+    }
+
+    /// The counts as a table, one call to a line.
+    pub fn table(&self) -> String {
+        let mut text = String::new();
+        for (place, (name, allowed)) in NAMES.iter().enumerate() {
+            let counts: Vec<String> = allowed
+                .iter()
+                .map(|&number| format!("{number}: {}", self.numbers[place][number as usize]))
+                .collect();
+            text += &format!("{name:18} {}\n", counts.join(", "));
+        }
+        for (case, count) in &self.cases {
+            text += &format!("{case}: {count}\n");
+        }
+        text
+    }
+
+    /// What document 01 allows and was never met.
+    pub fn missing(&self, far: bool) -> Vec<String> {
+        let mut missing = Vec::new();
+        for (place, (name, allowed)) in NAMES.iter().enumerate() {
+            for &number in *allowed {
+                if self.numbers[place][number as usize] == 0 {
+                    missing.push(format!("{name}: {number}"));
+                }
+            }
+        }
+        let cases = CASES.iter().copied().chain(far.then_some(FAR_CASE));
+        missing.extend(
+            cases
+                .filter(|case| !self.cases.contains_key(case))
+                .map(str::to_string),
+        );
+        missing
+    }
+}
+
+fn case_of(log: &[u8], call: &Call, said: &Said) -> Option<&'static str> {
+    let (number, out) = (said.number, &said.out);
+    match (call, number) {
+        (Call::Owed, 0) => Some(["owed: none", "owed: an offset"][out[0] as usize]),
+        (Call::Entry { .. }, 0) => Some(CASES[1 + out[0] as usize]),
+        (Call::Header { .. }, 0) => Some(["header: format 0", FAR_CASE][out[1] as usize]),
+        (Call::StreamNext { .. }, 0) => {
+            Some(["stream_next: the end", "stream_next: an entry"][out[0] as usize])
+        }
+        (Call::Append(Request::Update { items, .. }), 5) => {
+            if objects_written(writes_in(items)).count_ones() > 4 {
+                Some("append_update: 5 for its own objects")
+            } else {
+                Some("append_update: 5 for its transaction")
+            }
+        }
+        (Call::ReadCell { .. }, 0) => Some(CASES[11 + out[0] as usize]),
+        (Call::Play { record, .. }, 12) if out[1] > record.position => {
+            Some("play: 12 past other entries")
+        }
+        (Call::Play { record, .. }, 13) if out[1] > record.position => {
+            Some("play: 13 past other entries")
+        }
+        (Call::Play { record, .. }, 0) if record.position > 0 && out[2] > record.count => {
+            Some("play: on from a later position")
+        }
+        (Call::Audit { .. }, 11) => match slot_at(log, out[3] as usize).kind() {
+            Some(Kind::Decision) => Some("audit: 11 at a decision"),
+            _ => Some("audit: 11 at a checkpoint"),
+        },
+        (Call::Audit { .. }, 13) if out[3] > 0 => Some("audit: 13 past other entries"),
+        _ => None,
+    }
+}

@@ -1,0 +1,256 @@
+//! Logs of over 65,536 entries, with headers of both formats, and logs at the most slots. Few, since each call checks
+//! the whole log.
+
+use reference::append::Request;
+use reference::bytes::{put16, put64};
+use reference::objects::set_of;
+use reference::random::{History, Mix, Random};
+use reference::replica::Record;
+use reference::sample::{put, update};
+use reference::slot::{slot_at, MOST_SLOTS, SLOT};
+use reference::table::{put_row, Row, CELL};
+
+use crate::arguments::{self, Seen};
+use crate::calls::Call;
+use crate::pair::{Difference, Pair};
+
+const FILLER: u32 = 8;
+
+/// Far distances: the nearest entry of an object just within 65,535, at it, and past it.
+pub fn far(pair: &mut Pair, seed: u64) -> Result<(), Difference> {
+    pair.begin("far", seed);
+    let mut random = Random::new(seed ^ 0x5EED_0003);
+    let (mut log, tail) = grown(&mut random, seed);
+    let seen = Seen {
+        tail,
+        slots: (log.len() / SLOT) as u64,
+        keys: 3,
+    };
+    let far = far_headers(&log, tail);
+    worked(pair, &mut log, seen, &far)?;
+    on_both_sides(pair, &mut random, &mut log, seen)?;
+    damaged(pair, &mut random, &log, seen, &far)
+}
+
+/// Early entries of objects 1 to 7, a long stretch of object 8, then random appends: their nearest entries are far.
+/// Offset 0 is the one early entry of its object, whose next is at 65,535 or 65,536.
+fn grown(random: &mut Random, seed: u64) -> (Vec<u8>, u64) {
+    let mix = Mix {
+        broken: 0,
+        ..Mix::true_records()
+    };
+    let slots = 65_560 + random.below(40) as usize;
+    let mut history = History::new(seed, slots, mix);
+    let lowest = 1 + seed % 7;
+    let early = 7 + random.below(20);
+    for at in 0..early {
+        let object = match at {
+            0..=6 => 1 + (at + seed) % 7,
+            _ => 1 + (lowest + random.below(6)) % 7,
+        };
+        history.append(update(0, &[put(object as u32, 0, at as u32)]));
+    }
+    let next = 65_535 + (seed % 2) as usize;
+    while history.writer.tail < 65_545 {
+        let at = history.writer.tail;
+        let object = match at {
+            _ if at == next => lowest,
+            65_533.. => 1 + (lowest + random.below(6)) % 7,
+            _ => FILLER.into(),
+        };
+        history.append(update(0, &[put(object as u32, 0, at as u32)]));
+    }
+    while history.writer.tail < slots - 4 {
+        history.step();
+    }
+    (history.writer.log, history.writer.tail as u64)
+}
+
+/// The offset and place of each header of format 1.
+fn far_headers(log: &[u8], tail: u64) -> Vec<(u64, u32)> {
+    let mut far = Vec::new();
+    for at in 65_536..tail {
+        for (place, header) in slot_at(log, at as usize).headers().enumerate() {
+            if header.format == 1 {
+                far.push((at, place as u32));
+            }
+        }
+    }
+    far
+}
+
+/// Headers, streams and appends at and past the distance.
+fn worked(
+    pair: &mut Pair,
+    log: &mut Vec<u8>,
+    seen: Seen,
+    far: &[(u64, u32)],
+) -> Result<(), Difference> {
+    let tail = seen.tail;
+    for &(offset, place) in far.iter().take(4) {
+        pair.call(log, tail, &mut Call::Header { offset, place })?;
+    }
+    for object in 1..=7 {
+        let list = vec![7; 200];
+        pair.call(log, tail, &mut Call::StreamList { object, list })?;
+    }
+    for object in [1, 4] {
+        let from = 30;
+        pair.call(log, tail, &mut Call::StreamNext { object, from })?;
+    }
+    let list = vec![7; tail as usize];
+    let object = FILLER;
+    pair.call(log, tail, &mut Call::StreamList { object, list })?;
+    for at in [65_534, 65_535, 65_536, 65_537] {
+        let objects = [1, 2, 3, 4].map(|object| put(object, 1, 5));
+        let mut copy = log.clone();
+        let mut call = Call::Append(update(0, &objects));
+        pair.call(&mut copy, at, &mut call)?;
+        let mut call = Call::Header {
+            offset: at,
+            place: 1,
+        };
+        pair.call(&mut copy, at + 1, &mut call)?;
+    }
+    Ok(())
+}
+
+/// A play from 0 and one from the far end, an audit, and any calls.
+fn on_both_sides(
+    pair: &mut Pair,
+    random: &mut Random,
+    log: &mut Vec<u8>,
+    seen: Seen,
+) -> Result<(), Difference> {
+    let tail = seen.tail;
+    let scratch = vec![0xD5; 3000];
+    pair.call(log, tail, &mut Call::Audit { scratch })?;
+    for (position, stop) in [(0, 65_540), (65_540, tail)] {
+        let mut call = Call::Play {
+            record: Record {
+                hosted: 0xFF ^ set_of(FILLER),
+                position,
+                count: 0,
+            },
+            table: vec![0xAA; 3000],
+            stop,
+        };
+        pair.call(log, tail, &mut call)?;
+    }
+    for place in [0, 1, 2, 4, 12] {
+        let mut call = arguments::call(random, seen, place);
+        pair.call(log, tail, &mut call)?;
+    }
+    for kind in 0..4 {
+        let request: Request = arguments::append(random, seen, kind);
+        let mut copy = log.clone();
+        pair.call(&mut copy, tail, &mut Call::Append(request))?;
+    }
+    Ok(())
+}
+
+/// A far header's pointer, format bit or rest changed.
+fn damaged(
+    pair: &mut Pair,
+    random: &mut Random,
+    log: &[u8],
+    seen: Seen,
+    far: &[(u64, u32)],
+) -> Result<(), Difference> {
+    for way in 0..4 {
+        let Some((at, place)) = random.pick(far) else {
+            return Ok(());
+        };
+        let mut copy = log.to_vec();
+        let slot = &mut copy[at as usize * SLOT..at as usize * SLOT + SLOT];
+        let word = 8 + 12 * place as usize;
+        let pointer = slot_at(log, at as usize).header(place as usize).pointer;
+        match way {
+            0 => put64(slot, word + 4, pointer + 1),
+            1 => put64(slot, word + 4, pointer | 1 << 63),
+            2 => {
+                slot[word] ^= 0x80;
+                put64(slot, word + 4, 0);
+            }
+            _ => {
+                slot[word] ^= 0x80;
+                put16(slot, word + 4, 0xFFFF);
+            }
+        }
+        pair.call(&mut copy, seen.tail, &mut Call::Check)?;
+    }
+    Ok(())
+}
+
+/// Tables of more rows than there are cells, full of repeated cells.
+pub fn large_tables(pair: &mut Pair, seed: u64) -> Result<(), Difference> {
+    pair.begin("large tables", seed);
+    let mut random = Random::new(seed ^ 0x5EED_0004);
+    let history = History::made(seed, 60, 60, Mix::rough());
+    let tail = history.writer.tail as u64;
+    let mut log = history.writer.log;
+    for count in [3, 70_000] {
+        let mut table = vec![0; 70_001 * CELL];
+        for place in 0..70_000 {
+            let object = 1 + random.below(8) as u32;
+            let key = arguments::key(&mut random, object, 9_000);
+            let version = random.below(tail + 1);
+            put_row(&mut table, place, Row::of(object, key, Some(7), version));
+        }
+        for stop in [tail / 2, tail] {
+            let record = Record {
+                hosted: 0xFF,
+                position: 0,
+                count,
+            };
+            let table = table.clone();
+            let mut call = Call::Play {
+                record,
+                table,
+                stop,
+            };
+            pair.call(&mut log, tail, &mut call)?;
+        }
+        for object in [1, 4, 7] {
+            let record = Record {
+                hosted: 0xFF,
+                position: tail,
+                count,
+            };
+            let mut call = Call::ReadCell {
+                record,
+                table: table.clone(),
+                object,
+                key: 0,
+            };
+            pair.call(&mut log, tail, &mut call)?;
+            let mut copy = log.clone();
+            let mut call = Call::Append(Request::Checkpoint {
+                record,
+                table: table.clone(),
+                object,
+            });
+            pair.call(&mut copy, tail, &mut call)?;
+        }
+        pair.call(&mut log, tail, &mut Call::Audit { scratch: table })?;
+    }
+    Ok(())
+}
+
+/// The most slots, and one more.
+pub fn most_slots(pair: &mut Pair) -> Result<(), Difference> {
+    pair.begin("most slots", 0);
+    for (slots, tail) in [
+        (MOST_SLOTS, 0),
+        (MOST_SLOTS, 1),
+        (MOST_SLOTS, MOST_SLOTS as u64 + 1),
+        (MOST_SLOTS + 1, 0),
+        (MOST_SLOTS + 1, MOST_SLOTS as u64 + 1),
+    ] {
+        let mut log = vec![0; slots * SLOT];
+        pair.call(&mut log, tail, &mut Call::Check)?;
+        let mut call = Call::Append(update(0, &[put(2, 7, 43)]));
+        pair.call(&mut log, tail, &mut call)?;
+    }
+    Ok(())
+}

@@ -1,0 +1,285 @@
+//! Random histories: a log grows by appends while replicas are opened on it, played in instalments and read, and the
+//! other calls are made in between.
+
+use reference::append::Request;
+use reference::random::{broken, History, Mix, Random};
+use reference::replica::Record;
+use reference::slot::{slot_at, Kind, SLOT};
+use reference::table::CELL;
+
+use crate::arguments::{self, Seen};
+use crate::calls::{Call, NAMES};
+use crate::pair::{Difference, Pair};
+
+struct Replica {
+    record: Record,
+    table: Vec<u8>,
+}
+
+struct Case<'a> {
+    pair: &'a mut Pair,
+    random: Random,
+    history: History,
+    /// As the calls leave it; above the tail it is not what the history's own log is.
+    log: Vec<u8>,
+    replicas: Vec<Replica>,
+}
+
+/// One history, with all calls that are made on it.
+pub fn history(pair: &mut Pair, seed: u64) -> Result<(), Difference> {
+    pair.begin("history", seed);
+    let mut random = Random::new(seed ^ 0x5EED_0001);
+    let slots = slots(&mut random);
+    let mix = mix(&mut random);
+    let fill = random.pick(&[0, 0x5A, 0xFF]).unwrap_or(0);
+    let steps = slots + 3 + random.below(4) as usize;
+    let mut case = Case {
+        pair,
+        random,
+        history: History::new(seed, slots, mix),
+        log: vec![fill; slots * SLOT],
+        replicas: Vec::new(),
+    };
+    for _ in 0..steps {
+        case.append()?;
+        if case.random.percent(55) {
+            case.probe()?;
+        }
+    }
+    for _ in 0..6 {
+        case.probe()?;
+    }
+    Ok(())
+}
+
+/// Few slots mostly, so that logs are full soon.
+fn slots(random: &mut Random) -> usize {
+    let slots = match random.below(1000) {
+        0..=249 => random.below(9),
+        250..=849 => 9 + random.below(18),
+        850..=989 => 27 + random.below(28),
+        990..=998 => 55 + random.below(70),
+        _ => 150 + random.below(250),
+    };
+    slots as usize
+}
+
+/// Strides of transaction numbers, for tables that a library may keep by their low or high bits.
+const STRIDES: [u32; 10] = [
+    1,
+    1,
+    1,
+    7,
+    256,
+    1 << 12,
+    1 << 16,
+    1 << 17,
+    1 << 24,
+    0x0101_0101,
+];
+
+pub fn mix(random: &mut Random) -> Mix {
+    let mix = kind(random);
+    Mix {
+        stride: random.pick(&STRIDES).unwrap_or(1),
+        ..mix
+    }
+}
+
+fn kind(random: &mut Random) -> Mix {
+    match random.below(8) {
+        0..=1 => Mix::true_records(),
+        2 => Mix::crowded(),
+        3 => Mix {
+            keys: 1,
+            open: 2,
+            ..Mix::rough()
+        },
+        4 => Mix {
+            objects: 0b1110,
+            keys: 2,
+            open: 7,
+            ..Mix::rough()
+        },
+        _ => Mix::rough(),
+    }
+}
+
+impl Case<'_> {
+    fn tail(&self) -> u64 {
+        self.history.writer.tail as u64
+    }
+
+    fn seen(&self) -> Seen {
+        Seen {
+            tail: self.tail(),
+            slots: (self.log.len() / SLOT) as u64,
+            keys: self.history.mix.keys,
+        }
+    }
+
+    /// The next append of the history, or a checkpoint by one of the replicas.
+    fn append(&mut self) -> Result<(), Difference> {
+        let mut request = self.history.request();
+        if self.random.percent(self.history.mix.broken) {
+            let tail = self.history.writer.tail;
+            broken(&mut self.history.random, &mut request, tail);
+        }
+        if self.random.percent(7) {
+            request = self.checkpoint().unwrap_or(request);
+        }
+        let tail = self.tail();
+        let mut call = Call::Append(request.clone());
+        let said = self.pair.call(&mut self.log, tail, &mut call)?;
+        let answer = self.history.append(request);
+        assert_eq!(
+            said.number,
+            answer.number(),
+            "the second implementation's two ways of appending differ"
+        );
+        let used = self.history.writer.used();
+        assert!(
+            self.log[..used.len()] == *used,
+            "the second implementation's two ways of appending differ"
+        );
+        Ok(())
+    }
+
+    fn checkpoint(&mut self) -> Option<Request> {
+        let place = self.random.below(self.replicas.len() as u64) as usize;
+        let object = arguments::object(&mut self.random);
+        self.replicas.get(place).map(|replica| Request::Checkpoint {
+            record: replica.record,
+            table: replica.table.clone(),
+            object,
+        })
+    }
+
+    /// A call that adds nothing to the history.
+    fn probe(&mut self) -> Result<(), Difference> {
+        if self.random.percent(45) {
+            return self.replica();
+        }
+        let seen = self.seen();
+        let place = self.random.below(NAMES.len() as u64) as usize;
+        let mut call = arguments::call(&mut self.random, seen, place);
+        let tail = arguments::tail(&mut self.random, seen);
+        if matches!(call, Call::Append(_)) {
+            let mut copy = self.log.clone();
+            self.pair.call(&mut copy, tail, &mut call)?;
+        } else {
+            self.pair.call(&mut self.log, tail, &mut call)?;
+        }
+        Ok(())
+    }
+
+    /// Opens a replica, plays one, or reads a cell of one.
+    fn replica(&mut self) -> Result<(), Difference> {
+        if self.replicas.is_empty() || self.replicas.len() < 3 && self.random.percent(25) {
+            return self.open();
+        }
+        let place = self.random.below(self.replicas.len() as u64) as usize;
+        let replica = self.replicas.swap_remove(place);
+        if self.random.percent(30) {
+            return self.read(replica);
+        }
+        self.play(replica)
+    }
+
+    fn open(&mut self) -> Result<(), Difference> {
+        let cells = arguments::mostly(&mut self.random, 50, 8, 40);
+        let spare = self.random.below(CELL as u64);
+        let table = vec![0xAA; cells as usize * CELL + spare as usize];
+        let tail = self.random.below(self.tail() + 1);
+        let offset = self.checkpoint_below(tail);
+        let mut call = match offset {
+            Some(offset) if self.random.percent(60) => Call::OpenCheckpoint { offset, table },
+            _ => {
+                let hosted = arguments::hosted(&mut self.random);
+                let mut call = Call::OpenFresh { hosted };
+                let said = self.pair.call(&mut self.log, 0, &mut call)?;
+                self.keep(said.number, said.out, table);
+                return Ok(());
+            }
+        };
+        let said = self.pair.call(&mut self.log, tail, &mut call)?;
+        if let Call::OpenCheckpoint { table, .. } = call {
+            self.keep(said.number, said.out, table);
+        }
+        Ok(())
+    }
+
+    fn checkpoint_below(&mut self, tail: u64) -> Option<u64> {
+        let offsets: Vec<u64> = (0..tail)
+            .filter(|&at| slot_at(&self.log, at as usize).kind() == Some(Kind::Checkpoint))
+            .collect();
+        self.random.pick(&offsets)
+    }
+
+    fn keep(&mut self, number: u32, out: [u64; 8], table: Vec<u8>) {
+        if number == 0 {
+            self.replicas.push(Replica {
+                record: record_of(out),
+                table,
+            });
+        }
+    }
+
+    /// An instalment, at the tail or an older one.
+    fn play(&mut self, replica: Replica) -> Result<(), Difference> {
+        let tail = match self.random.percent(60) {
+            true => self.tail(),
+            false => self.random.below(self.tail() + 1),
+        };
+        let left = tail.saturating_sub(replica.record.position);
+        let stop = match self.random.below(20) {
+            0 => arguments::offset(&mut self.random, tail),
+            1..=8 => tail,
+            _ => replica.record.position + self.random.below(left + 1),
+        };
+        let mut call = Call::Play {
+            record: replica.record,
+            table: replica.table,
+            stop,
+        };
+        let said = self.pair.call(&mut self.log, tail, &mut call)?;
+        if let Call::Play { table, .. } = call {
+            self.replicas.push(Replica {
+                record: record_of(said.out),
+                table,
+            });
+        }
+        Ok(())
+    }
+
+    fn read(&mut self, replica: Replica) -> Result<(), Difference> {
+        let mut table = replica.table;
+        for _ in 0..4 {
+            let object = arguments::object(&mut self.random);
+            let mut call = Call::ReadCell {
+                record: replica.record,
+                table,
+                object,
+                key: arguments::key(&mut self.random, object, self.history.mix.keys),
+            };
+            self.pair.call(&mut self.log, 0, &mut call)?;
+            table = match call {
+                Call::ReadCell { table, .. } => table,
+                _ => Vec::new(),
+            };
+        }
+        self.replicas.push(Replica {
+            record: replica.record,
+            table,
+        });
+        Ok(())
+    }
+}
+
+fn record_of(out: [u64; 8]) -> Record {
+    Record {
+        hosted: out[0] as u8,
+        position: out[1],
+        count: out[2],
+    }
+}

@@ -1,0 +1,15 @@
+//! The differential run and the benchmark: the library under test, linked as a static archive, beside the second
+//! implementation.
+
+pub mod arguments;
+pub mod calls;
+pub mod cover;
+pub mod damaged;
+pub mod far;
+pub mod guarded;
+pub mod histories;
+pub mod library;
+pub mod measure;
+pub mod pair;
+pub mod plot;
+pub mod workload;

@@ -1,0 +1,181 @@
+//! One point of the benchmark: a call on a log, by one side.
+
+use reference::append::Request;
+use reference::boundary::{self, Said};
+use reference::objects::OBJECTS;
+use reference::replica::Record;
+use reference::sample::{put, write_bytes};
+use reference::table::CELL;
+
+use crate::library::{stocklog_append_update, stocklog_audit, stocklog_check, stocklog_play};
+use crate::workload::workload;
+
+pub const CALLS: [&str; 4] = ["check", "append", "play", "audit"];
+
+#[derive(Clone, Copy, Debug, PartialEq, Eq)]
+pub enum Side {
+    Library,
+    Reference,
+}
+
+impl Side {
+    pub fn named(name: &str) -> Option<Side> {
+        match name {
+            "library" => Some(Side::Library),
+            "reference" => Some(Side::Reference),
+            _ => None,
+        }
+    }
+
+    pub fn name(self) -> &'static str {
+        match self {
+            Side::Library => "library",
+            Side::Reference => "reference",
+        }
+    }
+
+    pub fn words(self) -> &'static str {
+        match self {
+            Side::Library => "proved",
+            Side::Reference => "plain Rust",
+        }
+    }
+}
+
+#[repr(C)]
+struct Timespec {
+    seconds: i64,
+    nanoseconds: i64,
+}
+
+extern "C" {
+    fn clock_gettime(clock: i32, time: *mut Timespec) -> i32;
+}
+
+/// Processor time of this process, in nanoseconds.
+fn now() -> f64 {
+    const PROCESSOR_TIME: i32 = 2;
+    let mut time = Timespec {
+        seconds: 0,
+        nanoseconds: 0,
+    };
+    // The clock is one that every Linux has.
+    unsafe { clock_gettime(PROCESSOR_TIME, &mut time) };
+    time.seconds as f64 * 1e9 + time.nanoseconds as f64
+}
+
+/// What the calls are given.
+struct Lent {
+    log: Vec<u8>,
+    tail: usize,
+    table: Vec<u8>,
+    items: Vec<u8>,
+}
+
+/// Nanoseconds of one call, the least of some, and its answer in words. A line is printed when the log is made.
+pub fn measured(call: &str, size: usize, side: Side, seed: u64) -> (f64, String) {
+    let cells: usize = OBJECTS
+        .iter()
+        .map(|object| object.highest_key as usize + 1)
+        .sum();
+    let mut lent = Lent {
+        log: workload(size, seed),
+        tail: size,
+        table: vec![0; cells * CELL],
+        items: write_bytes(&[put(2, 7, 43), put(5, 77, 1)]),
+    };
+    println!("made");
+    let mut least = f64::MAX;
+    let mut whole = 0.0;
+    let mut said = None;
+    let mut calls = 0;
+    while calls < 3 || whole < 5e8 && calls < 200 {
+        let start = now();
+        said = Some(made(call, side, &mut lent));
+        let took = now() - start;
+        least = least.min(took);
+        whole += took;
+        calls += 1;
+        if took > 5e9 {
+            break;
+        }
+    }
+    (least, shown(said, &lent))
+}
+
+/// The answer, `out` and a sum over the bytes.
+fn shown(said: Option<Said>, lent: &Lent) -> String {
+    let mut sum: u64 = 0;
+    for byte in lent.table.iter().chain(&lent.log) {
+        sum = sum
+            .rotate_left(5)
+            .wrapping_mul(31)
+            .wrapping_add(u64::from(*byte));
+    }
+    match said {
+        Some(said) => format!("{} {:?} {sum:016x}", said.number, &said.out[..4]),
+        None => "no answer".to_string(),
+    }
+}
+
+const FRESH: Record = Record {
+    hosted: 0xFF,
+    position: 0,
+    count: 0,
+};
+
+fn made(call: &str, side: Side, lent: &mut Lent) -> Said {
+    match side {
+        Side::Reference => by_reference(call, lent),
+        Side::Library => by_library(call, lent),
+    }
+}
+
+/// The append writes the last slot anew.
+fn by_reference(call: &str, lent: &mut Lent) -> Said {
+    let tail = lent.tail;
+    match call {
+        "check" => boundary::check(&lent.log, tail),
+        "append" => {
+            let request = Request::Update {
+                number: 0,
+                items: lent.items.clone(),
+            };
+            boundary::append(&mut lent.log, tail - 1, &request)
+        }
+        "play" => boundary::play(&lent.log, tail, FRESH, &mut lent.table, tail as u64),
+        _ => boundary::audit(&lent.log, tail, &mut lent.table),
+    }
+}
+
+fn by_library(call: &str, lent: &mut Lent) -> Said {
+    let mut out = [0; 8];
+    let (log, log_len) = (lent.log.as_mut_ptr(), lent.log.len());
+    let (table, table_len) = (lent.table.as_mut_ptr(), lent.table.len());
+    let tail = lent.tail as u64;
+    let to = out.as_mut_ptr();
+    // Every pointer is to memory of the length beside it, which nobody else uses during the call.
+    let number = unsafe {
+        match call {
+            "check" => stocklog_check(log, log_len, tail, to),
+            "append" => {
+                let (items, items_len) = (lent.items.as_ptr(), lent.items.len());
+                stocklog_append_update(log, log_len, tail - 1, 0, items, items_len, to)
+            }
+            "play" => stocklog_play(
+                log,
+                log_len,
+                tail,
+                FRESH.hosted,
+                FRESH.position,
+                FRESH.count,
+                table,
+                table_len,
+                tail,
+                to,
+            ),
+            _ => stocklog_audit(log, log_len, tail, table, table_len, to),
+        }
+    };
+    Said { number, out }
+}

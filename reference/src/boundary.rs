@@ -1,0 +1,149 @@
+//! The sixteen calls as the C interface has them: numbers and lent bytes in, a number and `out` back.
+//!
+//! "Values in `out[0]` to `out[2]`, the offset told by 2, by 11 and by the audit's 13 in `out[3]`, and 0 wherever
+//! nothing is said." The entry call alone uses `out[4]` to `out[7]`.
+
+use crate::answer::Answer;
+use crate::append;
+use crate::append::Request;
+use crate::audit;
+use crate::log;
+use crate::replica::{self, Record};
+use crate::table::Cell;
+
+/// What a call answers: 0 or document 01's number, and `out`.
+#[derive(Clone, Copy, Debug, PartialEq, Eq)]
+pub struct Said {
+    pub number: u32,
+    pub out: [u64; 8],
+}
+
+/// The number and the offset told; the values where done.
+fn said<T>(answer: Answer<T>, values: impl FnOnce(T) -> [u64; 3]) -> Said {
+    match answer {
+        Answer::Done(value) => Said {
+            number: 0,
+            out: first(values(value), 0),
+        },
+        Answer::Refused { number, offset } => Said {
+            number,
+            out: first([0; 3], offset.unwrap_or(0)),
+        },
+    }
+}
+
+/// The number and the offset told, with these values whatever the answer is.
+fn said_with<T>(answer: Answer<T>, values: [u64; 3]) -> Said {
+    let told = match answer {
+        Answer::Done(_) => 0,
+        Answer::Refused { offset, .. } => offset.unwrap_or(0),
+    };
+    Said {
+        number: answer.number(),
+        out: first(values, told),
+    }
+}
+
+fn first(values: [u64; 3], told: u64) -> [u64; 8] {
+    [values[0], values[1], values[2], told, 0, 0, 0, 0]
+}
+
+fn numbers(record: Record) -> [u64; 3] {
+    [u64::from(record.hosted), record.position, record.count]
+}
+
+pub fn check(log: &[u8], tail: usize) -> Said {
+    said(log::check(log, tail), |()| [0; 3])
+}
+
+pub fn owed(log: &[u8], tail: usize) -> Said {
+    said(log::owed(log, tail), |owed| match owed {
+        Some(offset) => [1, offset, 0],
+        None => [0; 3],
+    })
+}
+
+/// Kind, number, headers, the offset told, items.
+pub fn entry(log: &[u8], tail: usize, offset: u64) -> Said {
+    let answer = log::entry(log, tail, offset);
+    let mut said = said(answer, |entry| {
+        [
+            entry.kind as u64,
+            u64::from(entry.number),
+            entry.headers as u64,
+        ]
+    });
+    said.out[4] = answer.done().map_or(0, |entry| entry.items as u64);
+    said
+}
+
+pub fn header(log: &[u8], tail: usize, offset: u64, place: u32) -> Said {
+    said(log::header(log, tail, offset, place), |header| {
+        [
+            u64::from(header.object),
+            u64::from(header.format),
+            header.pointer,
+        ]
+    })
+}
+
+pub fn items(log: &[u8], tail: usize, offset: u64) -> Said {
+    said(log::stretch(log, tail, offset), |stretch| {
+        [stretch.from, stretch.length, 0]
+    })
+}
+
+/// "1, the entry's offset, the reader's next offset; or 0, 0, the tail. Refused: 0, 0, `from`".
+pub fn stream_next(log: &[u8], tail: usize, object: u32, from: u64) -> Said {
+    let (answer, next) = log::next(log, tail, object, from);
+    let values = match answer {
+        Answer::Done(Some(offset)) => [1, offset, next],
+        _ => [0, 0, next],
+    };
+    said_with(answer, values)
+}
+
+pub fn stream_list(log: &[u8], tail: usize, object: u32, list: &mut [u32]) -> Said {
+    said(log::list(log, tail, object, list), |count| {
+        [count as u64, 0, 0]
+    })
+}
+
+/// Any of the four appends: the new tail.
+pub fn append(log: &mut [u8], tail: usize, request: &Request) -> Said {
+    said(append::request(log, tail, request), |tail| {
+        [tail as u64, 0, 0]
+    })
+}
+
+pub fn open_fresh(hosted: u8) -> Said {
+    said(replica::open_fresh(hosted), numbers)
+}
+
+pub fn open_checkpoint(log: &[u8], tail: usize, offset: u64, table: &mut [u8]) -> Said {
+    said(replica::open_at(log, tail, offset, table), numbers)
+}
+
+/// The record as it is left, whatever the answer is.
+pub fn play(log: &[u8], tail: usize, record: Record, table: &mut [u8], stop: u64) -> Said {
+    let (answer, left) = replica::play(log, tail, record, table, stop);
+    said_with(answer, numbers(left))
+}
+
+/// "0 never written, 1 holds a value, 2 removed; the value; the version".
+pub fn read_cell(record: Record, table: &[u8], object: u32, key: u32) -> Said {
+    said(
+        replica::read_cell(&record, table, object, key),
+        |cell| match cell {
+            Cell::NeverWritten => [0; 3],
+            Cell::Holds { value, version } => [1, u64::from(value), version],
+            Cell::Removed { version } => [2, 0, version],
+        },
+    )
+}
+
+/// "the record as played; with 11 and 13 too".
+pub fn audit(log: &[u8], tail: usize, scratch: &mut [u8]) -> Said {
+    let (answer, record) = audit::audit(log, tail, scratch);
+    said_with(answer, numbers(record))
+}
