@@ -5,7 +5,7 @@ use reference::append::Request;
 use reference::random::{broken, History, Mix, Random};
 use reference::replica::Record;
 use reference::slot::{slot_at, Kind, SLOT};
-use reference::table::CELL;
+use reference::table::{capacity, put_row, row, Row, CELL};
 
 use crate::arguments::{self, Seen};
 use crate::calls::{Call, NAMES};
@@ -225,8 +225,11 @@ impl Case<'_> {
         }
     }
 
-    /// An instalment, at the tail or an older one.
-    fn play(&mut self, replica: Replica) -> Result<(), Difference> {
+    /// An instalment, at the tail or an older one; now and then on a table that somebody changed.
+    fn play(&mut self, mut replica: Replica) -> Result<(), Difference> {
+        if self.random.percent(12) {
+            tamper(&mut self.random, &mut replica);
+        }
         let tail = match self.random.percent(60) {
             true => self.tail(),
             false => self.random.below(self.tail() + 1),
@@ -273,6 +276,32 @@ impl Case<'_> {
             table,
         });
         Ok(())
+    }
+}
+
+/// Repeats a cell further down with other content, or changes a row's present field or version.
+fn tamper(random: &mut Random, replica: &mut Replica) {
+    let count = replica.record.count as usize;
+    if count == 0 {
+        return;
+    }
+    let place = random.below(count as u64) as usize;
+    let first = row(&replica.table, place);
+    let change = Row {
+        value: first.value ^ 5,
+        version: random.below(replica.record.position + 1),
+        ..first
+    };
+    match random.below(4) {
+        0..=1 if count < capacity(&replica.table) => {
+            put_row(&mut replica.table, count, change);
+            replica.record.count += 1;
+        }
+        2 => {
+            let present = random.below(4) as u32;
+            put_row(&mut replica.table, place, Row { present, ..first });
+        }
+        _ => put_row(&mut replica.table, place, change),
     }
 }
 
