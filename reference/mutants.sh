@@ -16,7 +16,7 @@ trap 'rm -rf "$room"' EXIT
 target=${CARGO_TARGET_DIR:-$here/target}
 # Quick to build; the runs are short.
 export CARGO_PROFILE_RELEASE_OPT_LEVEL=1
-options="--histories 2000 --damaged 2000 --far 1 --seed 1 --uncounted"
+options="--histories 2000 --damaged 2000 --long 0 --far 1 --seed 1 --uncounted"
 
 # Links the run against an archive and makes it.
 run() {

@@ -5,7 +5,7 @@ use reference::append::Request;
 use reference::random::{broken, History, Mix, Random};
 use reference::replica::Record;
 use reference::slot::{slot_at, Kind, SLOT};
-use reference::table::CELL;
+use reference::table::{capacity, put_row, row, Row, CELL};
 
 use crate::arguments::{self, Seen};
 use crate::calls::{Call, NAMES};
@@ -30,26 +30,53 @@ pub fn history(pair: &mut Pair, seed: u64) -> Result<(), Difference> {
     pair.begin("history", seed);
     let mut random = Random::new(seed ^ 0x5EED_0001);
     let slots = slots(&mut random);
-    let mix = mix(&mut random);
-    let fill = random.pick(&[0, 0x5A, 0xFF]).unwrap_or(0);
     let steps = slots + 3 + random.below(4) as usize;
-    let mut case = Case {
-        pair,
-        random,
-        history: History::new(seed, slots, mix),
-        log: vec![fill; slots * SLOT],
-        replicas: Vec::new(),
-    };
-    for _ in 0..steps {
-        case.append()?;
-        if case.random.percent(55) {
-            case.probe()?;
+    Case::new(pair, random, seed, slots).run(steps)
+}
+
+/// A history of which the first thousand entries are there before calls are made, about the length at which a library
+/// may change its way of working.
+pub fn long_history(pair: &mut Pair, seed: u64) -> Result<(), Difference> {
+    pair.begin("long history", seed);
+    let mut random = Random::new(seed ^ 0x5EED_0005);
+    let grown = 1_005 + random.below(20) as usize;
+    let mut case = Case::new(pair, random, seed, grown + 20);
+    case.history.mix.broken = 0;
+    while case.history.writer.tail < grown {
+        case.history.step();
+    }
+    let used = case.history.writer.used();
+    case.log[..used.len()].copy_from_slice(used);
+    case.history.mix.broken = 12;
+    case.run(22)
+}
+
+impl<'a> Case<'a> {
+    fn new(pair: &'a mut Pair, mut random: Random, seed: u64, slots: usize) -> Case<'a> {
+        let mix = mix(&mut random);
+        let fill = random.pick(&[0, 0x5A, 0xFF]).unwrap_or(0);
+        Case {
+            pair,
+            random,
+            history: History::new(seed, slots, mix),
+            log: vec![fill; slots * SLOT],
+            replicas: Vec::new(),
         }
     }
-    for _ in 0..6 {
-        case.probe()?;
+
+    /// So many appends, with other calls in between and after.
+    fn run(mut self, steps: usize) -> Result<(), Difference> {
+        for _ in 0..steps {
+            self.append()?;
+            if self.random.percent(55) {
+                self.probe()?;
+            }
+        }
+        for _ in 0..6 {
+            self.probe()?;
+        }
+        Ok(())
     }
-    Ok(())
 }
 
 /// Few slots mostly, so that logs are full soon.
@@ -64,14 +91,16 @@ fn slots(random: &mut Random) -> usize {
     slots as usize
 }
 
-/// Strides of transaction numbers, for tables that a library may keep by their low or high bits.
-const STRIDES: [u32; 10] = [
+/// Strides of transaction numbers, for tables that a library may keep by their low or high bits or by a rest.
+const STRIDES: [u32; 12] = [
     1,
     1,
     1,
     7,
     256,
     1 << 12,
+    1021,
+    65_521,
     1 << 16,
     1 << 17,
     1 << 24,
@@ -225,8 +254,11 @@ impl Case<'_> {
         }
     }
 
-    /// An instalment, at the tail or an older one.
-    fn play(&mut self, replica: Replica) -> Result<(), Difference> {
+    /// An instalment, at the tail or an older one; now and then on a table that somebody changed.
+    fn play(&mut self, mut replica: Replica) -> Result<(), Difference> {
+        if self.random.percent(12) {
+            tamper(&mut self.random, &mut replica);
+        }
         let tail = match self.random.percent(60) {
             true => self.tail(),
             false => self.random.below(self.tail() + 1),
@@ -273,6 +305,32 @@ impl Case<'_> {
             table,
         });
         Ok(())
+    }
+}
+
+/// Repeats a cell further down with other content, or changes a row's present field or version.
+fn tamper(random: &mut Random, replica: &mut Replica) {
+    let count = replica.record.count as usize;
+    if count == 0 {
+        return;
+    }
+    let place = random.below(count as u64) as usize;
+    let first = row(&replica.table, place);
+    let change = Row {
+        value: first.value ^ 5,
+        version: random.below(replica.record.position + 1),
+        ..first
+    };
+    match random.below(4) {
+        0..=1 if count < capacity(&replica.table) => {
+            put_row(&mut replica.table, count, change);
+            replica.record.count += 1;
+        }
+        2 => {
+            let present = random.below(4) as u32;
+            put_row(&mut replica.table, place, Row { present, ..first });
+        }
+        _ => put_row(&mut replica.table, place, change),
     }
 }
 

@@ -73,13 +73,13 @@ struct Lent {
 }
 
 /// Nanoseconds of one call, the least of some, and its answer in words. A line is printed when the log is made.
-pub fn measured(call: &str, size: usize, side: Side, seed: u64) -> (f64, String) {
+pub fn measured(call: &str, size: usize, side: Side, seed: u64, stride: u32) -> (f64, String) {
     let cells: usize = OBJECTS
         .iter()
         .map(|object| object.highest_key as usize + 1)
         .sum();
     let mut lent = Lent {
-        log: workload(size, seed),
+        log: workload(size, seed, stride),
         tail: size,
         table: vec![0; cells * CELL],
         items: write_bytes(&[put(2, 7, 43), put(5, 77, 1)]),

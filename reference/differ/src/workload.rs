@@ -25,6 +25,7 @@ struct Open {
 /// A growing log.
 struct Depots {
     random: Random,
+    stride: u32,
     writer: Writer,
     run: Run,
     open: VecDeque<Open>,
@@ -32,10 +33,11 @@ struct Depots {
     owed: VecDeque<u64>,
 }
 
-/// A log of so many slots, all used.
-pub fn workload(slots: usize, seed: u64) -> Vec<u8> {
+/// A log of so many slots, all used. Transaction numbers are the multiples of the stride.
+pub fn workload(slots: usize, seed: u64, stride: u32) -> Vec<u8> {
     let mut depots = Depots {
         random: Random::new(seed),
+        stride,
         writer: Writer::new(slots),
         run: Run::new(),
         open: VecDeque::new(),
@@ -100,7 +102,7 @@ impl Depots {
     }
 
     fn begin(&mut self) -> Request {
-        self.last_number += 1;
+        self.last_number += self.stride;
         let mut objects: Vec<u32> = (0..1 + self.random.below(3))
             .map(|_| self.object())
             .collect();

@@ -1,12 +1,12 @@
 //! The benchmark: check, append, play of all and audit, by the library under test and by the second implementation, on
 //! the same logs.
 //!
-//! usage: bench [--sizes N,N,..] [--limit SECONDS] [--seed S] [--report FILE] [--plot FILE]
+//! usage: bench [--sizes N,N,..] [--limit SECONDS] [--seed S] [--stride T] [--report FILE] [--plot FILE]
 //!
 //! Prints a table: processor time of one call in nanoseconds for each entry of the log, and the ratio. Each point is
 //! measured in a process of its own, which is ended when it has taken longer than the limit; larger logs are then left
-//! out. Both sides must give the same answer, `out` and bytes. `--report` writes the table with some words of
-//! explanation, `--plot` a plot as SVG.
+//! out. Transaction numbers are multiples of the stride, 1 unless it is given. Both sides must give the same answer,
+//! `out` and bytes. `--report` writes the table with some words of explanation, `--plot` a plot as SVG.
 
 use std::io::{BufRead, BufReader, Read};
 use std::process::{Child, Command, ExitCode, Stdio};
@@ -20,6 +20,7 @@ struct Options {
     sizes: Vec<usize>,
     limit: u64,
     seed: u64,
+    stride: u32,
     report: Option<String>,
     plot: Option<String>,
     /// A process that measures one point: the call, the entries, the side.
@@ -27,13 +28,14 @@ struct Options {
 }
 
 const USAGE: &str =
-    "usage: bench [--sizes N,N,..] [--limit SECONDS] [--seed S] [--report FILE] [--plot FILE]";
+    "usage: bench [--sizes N,N,..] [--limit SECONDS] [--seed S] [--stride T] [--report FILE] [--plot FILE]";
 
 fn options() -> Option<Options> {
     let mut options = Options {
         sizes: vec![1_024, 4_096, 16_384, 65_536, 131_072],
         limit: 60,
         seed: 1,
+        stride: 1,
         report: None,
         plot: None,
         point: None,
@@ -54,6 +56,7 @@ fn options() -> Option<Options> {
             }
             "--limit" => options.limit = value.parse().ok()?,
             "--seed" => options.seed = value.parse().ok()?,
+            "--stride" => options.stride = value.parse().ok()?,
             "--report" => options.report = Some(value),
             "--plot" => options.plot = Some(value),
             "--point" => {
@@ -98,6 +101,7 @@ fn point(call: &str, size: usize, side: Side, options: &Options) -> Result<Point
     let program = env::current_exe().map_err(|error| error.to_string())?;
     let mut child = Command::new(program)
         .args(["--seed", &options.seed.to_string()])
+        .args(["--stride", &options.stride.to_string()])
         .args(["--point", call, &size.to_string(), side.name()])
         .stdout(Stdio::piped())
         .spawn()
@@ -287,7 +291,7 @@ fn main() -> ExitCode {
         return ExitCode::from(2);
     };
     if let Some((call, size, side)) = &options.point {
-        let (took, answer) = measured(call, *size, *side, options.seed);
+        let (took, answer) = measured(call, *size, *side, options.seed, options.stride);
         println!("{took} {answer}");
         return ExitCode::SUCCESS;
     }

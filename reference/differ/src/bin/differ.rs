@@ -1,9 +1,9 @@
 //! The differential run: the library under test beside the second implementation.
 //!
-//! usage: differ [--histories N] [--damaged M] [--far K] [--seed S] [--uncounted] [--trace]
+//! usage: differ [--histories N] [--damaged M] [--long L] [--far K] [--seed S] [--uncounted] [--trace]
 //!
-//! History i has seed S + i, and so has damaged log i and far log i: a reported case is made again with its seed and
-//! `--histories 1 --damaged 0 --far 0`, or the like. The run fails at the first difference, and where a number that
+//! History i has seed S + i, and so has damaged log i, long history i and far log i: a reported case is made again with
+//! its seed and `--histories 1 --damaged 0 --long 0 --far 0 --uncounted`, or the like. The run fails at the first difference, and where a number that
 //! document 01 allows a call was never met; `--uncounted` leaves that out. `--trace` prints each call before it is
 //! made.
 
@@ -13,12 +13,13 @@ use std::time::Instant;
 
 use differ::damaged::damaged;
 use differ::far::{far, large_tables, most_slots};
-use differ::histories::history;
+use differ::histories::{history, long_history};
 use differ::pair::{Difference, Pair};
 
 struct Options {
     histories: u64,
     damaged: u64,
+    long: u64,
     far: u64,
     seed: u64,
     counted: bool,
@@ -26,12 +27,13 @@ struct Options {
 }
 
 const USAGE: &str =
-    "usage: differ [--histories N] [--damaged M] [--far K] [--seed S] [--uncounted] [--trace]";
+    "usage: differ [--histories N] [--damaged M] [--long L] [--far K] [--seed S] [--uncounted] [--trace]";
 
 fn options() -> Result<Options, String> {
     let mut options = Options {
         histories: 10_000,
         damaged: 20_000,
+        long: 100,
         far: 2,
         seed: 1,
         counted: true,
@@ -42,6 +44,7 @@ fn options() -> Result<Options, String> {
         let place = match word.as_str() {
             "--histories" => &mut options.histories,
             "--damaged" => &mut options.damaged,
+            "--long" => &mut options.long,
             "--far" => &mut options.far,
             "--seed" => &mut options.seed,
             "--uncounted" => {
@@ -86,6 +89,13 @@ fn part(
 fn all(pair: &mut Pair, options: &Options) -> Result<(), Difference> {
     part(pair, "histories", options.seed, options.histories, history)?;
     part(pair, "damaged logs", options.seed, options.damaged, damaged)?;
+    part(
+        pair,
+        "long histories",
+        options.seed,
+        options.long,
+        long_history,
+    )?;
     part(pair, "far logs", options.seed, options.far, far)?;
     part(
         pair,
