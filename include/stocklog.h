@@ -95,7 +95,7 @@ enum {
  * lengths, so its use does not depend on the log. tools/stack adds it up from the archive's machine code (frames along the
  * calls, and 16 KiB for memset and memcpy) and fails above this bound.
  */
-enum { STOCKLOG_STACK = 2097152 };
+enum { STOCKLOG_STACK = 3145728 };
 
 /* ---- Reading a log. Nothing lent is changed, but for out and the list of stocklog_stream_list. ---- */
 
