@@ -22,7 +22,7 @@ options="--histories 2000 --damaged 2000 --long 0 --far 1 --seed 1 --uncounted"
 run() {
     STOCKLOG_LIB=$1 CARGO_TARGET_DIR=$target/mutants cargo build --quiet --release --offline --manifest-path "$here/differ/Cargo.toml" --bin differ
     # shellcheck disable=SC2086
-    "$target/mutants/release/differ" $options
+    TMPDIR=$room "$target/mutants/release/differ" $options
 }
 
 CARGO_TARGET_DIR=$target/mutants "$here/standin.sh" "$room/plain.a"

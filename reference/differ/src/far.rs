@@ -82,7 +82,7 @@ fn far_headers(log: &[u8], tail: u64) -> Vec<(u64, u32)> {
 /// Headers, streams and appends at and past the distance.
 fn worked(
     pair: &mut Pair,
-    log: &mut Vec<u8>,
+    log: &mut [u8],
     seen: Seen,
     far: &[(u64, u32)],
 ) -> Result<(), Difference> {
@@ -103,7 +103,7 @@ fn worked(
     pair.call(log, tail, &mut Call::StreamList { object, list })?;
     for at in [65_534, 65_535, 65_536, 65_537] {
         let objects = [1, 2, 3, 4].map(|object| put(object, 1, 5));
-        let mut copy = log.clone();
+        let mut copy = log.to_vec();
         let mut call = Call::Append(update(0, &objects));
         pair.call(&mut copy, at, &mut call)?;
         let mut call = Call::Header {
@@ -119,7 +119,7 @@ fn worked(
 fn on_both_sides(
     pair: &mut Pair,
     random: &mut Random,
-    log: &mut Vec<u8>,
+    log: &mut [u8],
     seen: Seen,
 ) -> Result<(), Difference> {
     let tail = seen.tail;
@@ -143,7 +143,7 @@ fn on_both_sides(
     }
     for kind in 0..4 {
         let request: Request = arguments::append(random, seen, kind);
-        let mut copy = log.clone();
+        let mut copy = log.to_vec();
         pair.call(&mut copy, tail, &mut Call::Append(request))?;
     }
     Ok(())
@@ -182,7 +182,19 @@ fn damaged(
     Ok(())
 }
 
-/// Tables of more rows than there are cells, full of repeated cells.
+/// A table of 70,000 rows, more than there are cells, and room for one more.
+fn crowded(random: &mut Random, tail: u64) -> Vec<u8> {
+    let mut table = vec![0; 70_001 * CELL];
+    for place in 0..70_000 {
+        let object = 1 + random.below(8) as u32;
+        let key = arguments::key(random, object, 9_000);
+        let version = random.below(tail + 1);
+        put_row(&mut table, place, Row::of(object, key, Some(7), version));
+    }
+    table
+}
+
+/// Tables full of repeated cells: plays, cell readings, checkpoints, the audit.
 pub fn large_tables(pair: &mut Pair, seed: u64) -> Result<(), Difference> {
     pair.begin("large tables", seed);
     let mut random = Random::new(seed ^ 0x5EED_0004);
@@ -190,50 +202,51 @@ pub fn large_tables(pair: &mut Pair, seed: u64) -> Result<(), Difference> {
     let tail = history.writer.tail as u64;
     let mut log = history.writer.log;
     for count in [3, 70_000] {
-        let mut table = vec![0; 70_001 * CELL];
-        for place in 0..70_000 {
-            let object = 1 + random.below(8) as u32;
-            let key = arguments::key(&mut random, object, 9_000);
-            let version = random.below(tail + 1);
-            put_row(&mut table, place, Row::of(object, key, Some(7), version));
-        }
+        let table = crowded(&mut random, tail);
+        let record = |position| Record {
+            hosted: 0xFF,
+            position,
+            count,
+        };
         for stop in [tail / 2, tail] {
-            let record = Record {
-                hosted: 0xFF,
-                position: 0,
-                count,
-            };
-            let table = table.clone();
             let mut call = Call::Play {
-                record,
-                table,
+                record: record(0),
+                table: table.clone(),
                 stop,
             };
             pair.call(&mut log, tail, &mut call)?;
         }
         for object in [1, 4, 7] {
-            let record = Record {
-                hosted: 0xFF,
-                position: tail,
-                count,
-            };
-            let mut call = Call::ReadCell {
-                record,
-                table: table.clone(),
-                object,
-                key: 0,
-            };
-            pair.call(&mut log, tail, &mut call)?;
-            let mut copy = log.clone();
-            let mut call = Call::Append(Request::Checkpoint {
-                record,
-                table: table.clone(),
-                object,
-            });
-            pair.call(&mut copy, tail, &mut call)?;
+            let (record, table) = (record(tail), table.clone());
+            read_and_save(pair, &mut log, tail, record, table, object)?;
         }
         pair.call(&mut log, tail, &mut Call::Audit { scratch: table })?;
     }
+    Ok(())
+}
+
+fn read_and_save(
+    pair: &mut Pair,
+    log: &mut [u8],
+    tail: u64,
+    record: Record,
+    table: Vec<u8>,
+    object: u32,
+) -> Result<(), Difference> {
+    let mut call = Call::ReadCell {
+        record,
+        table: table.clone(),
+        object,
+        key: 0,
+    };
+    pair.call(log, tail, &mut call)?;
+    let mut copy = log.to_vec();
+    let mut call = Call::Append(Request::Checkpoint {
+        record,
+        table,
+        object,
+    });
+    pair.call(&mut copy, tail, &mut call)?;
     Ok(())
 }
 
