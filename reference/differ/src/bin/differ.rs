@@ -111,7 +111,12 @@ fn all(pair: &mut Pair, options: &Options) -> Result<(), Difference> {
 }
 
 /// What `stocklog.h` says is enough for any call (STOCKLOG_STACK), and some for this program.
-const STACK: usize = 2_097_152 + 262_144;
+fn stack() -> usize {
+    let header = include_str!("../../../../include/stocklog.h");
+    let (_, stated) = header.split_once("STOCKLOG_STACK = ").expect("the header file states the stack");
+    let digits: String = stated.chars().take_while(char::is_ascii_digit).collect();
+    digits.parse::<usize>().expect("a number") + 262_144
+}
 
 fn main() -> ExitCode {
     let options = match options() {
@@ -122,7 +127,7 @@ fn main() -> ExitCode {
         }
     };
     let run = thread::Builder::new()
-        .stack_size(STACK)
+        .stack_size(stack())
         .spawn(move || run(&options));
     match run.map(thread::JoinHandle::join) {
         Ok(Ok(status)) => status,
