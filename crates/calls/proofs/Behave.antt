@@ -15,8 +15,9 @@ use Rattle.model.specs.Append.{badReplica}
 use Rattle.model.specs.Replica as model
 use Rattle.model.specs.Run.{Run, current}
 use Rattle.model.specs.Claims as model-claims
-use Rattle.model.specs.Claims.{Lent, inLog, History, wholeLog, stood, ranTo, Passed, Carried, Opening, ifOpened, ifFresh, carried, Play, played, plays, opened, cellsWritten, Shows, Waiting}
-use Rattle.model.specs.Claims.{fresh as openFresh, atCheckpoint as openAtCheckpoint}
+use Rattle.model.specs.Histories.{Lent, inLog, History, wholeLog, stood, ranTo, Passed, Carried, Opening, ifOpened, ifFresh, carried, Play, played, plays, opened, cellsWritten}
+use Rattle.model.specs.Claims.{Shows, Waiting}
+use Rattle.model.specs.Histories.{fresh as openFresh, atCheckpoint as openAtCheckpoint}
 use Rattle.claims.proofs.Outcomes.{plays-hosting}
 use Rattle.claims.proofs.Depots.{demand2-depots, demand3-depots}
 use Rattle.entries.specs.Answers.{checkedIn}

@@ -7,7 +7,7 @@ use lib.ListN.{take}
 use Rattle.model.specs.Objects.{depots}
 use Rattle.model.specs.Append as model
 use Rattle.model.specs.Run.{Fed, Run, start, runAt}
-use Rattle.model.specs.Claims.{Lent, isRefused, tailAfter, after, grown, feed, History, wholeLog, stood, ranTo}
+use Rattle.model.specs.Histories.{Lent, isRefused, tailAfter, after, grown, feed, History, wholeLog, stood, ranTo}
 use Rattle.calls.specs.Values.{AppendCall, tailLeft, Grows, leftBy, Appends, lastLog, logAfter, fedBy, ran}
 
 abbrev pub lent : List ℕ → ℕ → Lent

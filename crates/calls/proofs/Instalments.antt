@@ -20,7 +20,8 @@ use Rattle.model.specs.Play.{Played, going, waits, lacks, cellsIn, versionAt, o
 use Rattle.model.specs.Answers.{Refusal, Answer, done, refused, refuse, firstOf, frameAndEntries, badFrame}
 use Rattle.model.specs.Append.{Replica, badRecord, badReplica}
 use Rattle.model.specs.Replica as model
-use Rattle.model.specs.Claims.{Bytes, inLog}
+use Rattle.model.specs.Histories.{inLog}
+use Rattle.model.specs.Claims.{Bytes}
 use Rattle.records.specs.Record.{replicaIn}
 use Rattle.calls.specs.Claims.{leftOf, CallsInstalments}
 use Rattle.laws.proofs.Items.{fitsCell}

@@ -9,7 +9,7 @@ use Rattle.model.specs.Objects.{depots}
 use Rattle.model.specs.Rules.{lowestBad}
 use Rattle.model.specs.Answers.{Answer, done, refused, refuse, refuseAt, firstOf, answer, badFrame}
 use Rattle.model.specs.Reading.{check}
-use Rattle.model.specs.Claims.{Lent, inLog}
+use Rattle.model.specs.Histories.{Lent, inLog}
 use Rattle.claims.proofs.Depots.{keeps-good-depots}
 use Rattle.entries.specs.Answers.{checkedIn}
 use Rattle.calls.specs.Values.{lastLog}

@@ -10,7 +10,8 @@ use Rattle.model.specs.Entries.{headerObjects, numberOf}
 use Rattle.model.specs.Answers.{Answer, done, refused}
 use Rattle.model.specs.Reading as reading
 use Rattle.model.specs.Append as model
-use Rattle.model.specs.Claims.{Lent, inLog, tailAfter, isRefused, after, infoBack, itemsBack, headerObjectsIn, Accepted, Back}
+use Rattle.model.specs.Histories.{Lent, inLog, tailAfter, isRefused, after, Accepted}
+use Rattle.model.specs.Claims.{infoBack, itemsBack, headerObjectsIn, Back}
 use Rattle.claims.proofs.Depots.{demand2-depots}
 use Rattle.entries.specs.declared.calls.Info.{Info}
 use Rattle.entries.specs.declared.calls.Found as finds

@@ -13,7 +13,8 @@ use Rattle.model.specs.Answers.{done}
 use Rattle.model.specs.Append.{entryOf, badReplica}
 use Rattle.model.specs.Replica.{Left, plainly, badStop}
 use Rattle.model.specs.Run.{current}
-use Rattle.model.specs.Claims.{Lent, inLog, Waiting, cellsWritten, Bytes, givenItems, kindGiven, headerObjectsIn}
+use Rattle.model.specs.Histories.{Lent, inLog, cellsWritten}
+use Rattle.model.specs.Claims.{Waiting, Bytes, givenItems, kindGiven, headerObjectsIn}
 use Rattle.entries.specs.declared.calls.Checked.the-variants as checked
 use Rattle.entries.specs.declared.calls.Info.{Info}
 use Rattle.entries.specs.declared.calls.Found.the-variants as found

@@ -15,7 +15,8 @@ use Rattle.model.specs.Table.{Holds, versionIn, lookup, cellsOf}
 use Rattle.model.specs.Play.{commitsOver}
 use Rattle.model.specs.Append.{claimGiven}
 use Rattle.model.specs.Run.{hasVersion, current, accept, madeAll}
-use Rattle.model.specs.Claims.{Stale, RunAborts, ReplicaAborts}
+use Rattle.model.specs.Conditions.{Stale}
+use Rattle.model.specs.Claims.{RunAborts, ReplicaAborts}
 use Rattle.claims.proofs.Runs.{version-same}
 
 -- ---- a list's test that fails

@@ -19,7 +19,7 @@ use Rattle.model.specs.Play.{Played, going, waits, lacks, cellsIn, alone, commi
 use Rattle.model.specs.Answers.{Refusal, done, answer, firstOf, slots, badFrame, frameAndEntries}
 use Rattle.model.specs.Replica.{auditPlay, commitsThere, asPlayed, lowestFalse, auditGiven, audit}
 use Rattle.model.specs.Run.{current}
-use Rattle.model.specs.Claims.{isRefused}
+use Rattle.model.specs.Histories.{isRefused}
 use Rattle.laws.proofs.Items.{cell-object}
 use Rattle.laws.proofs.Refusals.{all-pass, refuse-none, refuseAt-none, lowest-none}
 use Rattle.laws.proofs.Slots.{Kept, writes-ok}

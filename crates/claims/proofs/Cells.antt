@@ -17,7 +17,7 @@ use Rattle.model.specs.Slot.{valueField}
 use Rattle.model.specs.Rules.{fits, okWrite}
 use Rattle.model.specs.Table.{Cell, Holds, isOf, heldBy, lookup, presentField, cellOf, store, apply}
 use Rattle.model.specs.Run.{written, madeAll}
-use Rattle.model.specs.Claims.{cellsWritten}
+use Rattle.model.specs.Histories.{cellsWritten}
 use Rattle.laws.proofs.Items.{fitsCell, fitsWrite, write-fits}
 use Rattle.claims.proofs.Counts.{same, same-object, same-key, same-eq, other-object, put, byId, written-same, written-none, written-new}
 

@@ -13,7 +13,7 @@ use Rattle.lists.specs.Sets.{mem, ascending, rest-ascends}
 use Rattle.model.specs.Objects.{Object}
 use Rattle.model.specs.Entries.{Held, isNone}
 use Rattle.model.specs.Table.{Holds}
-use Rattle.model.specs.Claims.{keysWritten, cellsWritten}
+use Rattle.model.specs.Histories.{keysWritten, cellsWritten}
 use Rattle.laws.proofs.Items.{idsOf, cellIn, cell-object}
 
 -- ---- the same cell

@@ -18,7 +18,8 @@ use Rattle.model.specs.Answers.{done, refuse, firstOf, answer}
 use Rattle.model.specs.Append.{badRecord}
 use Rattle.model.specs.Replica.{plainly, readCell}
 use Rattle.model.specs.Run.{current}
-use Rattle.model.specs.Claims.{isRefused, inLog, History, wholeLog, stood, ranTo, Passed, Carried, carried, Opening, fresh, atCheckpoint, opened, Play, played, plays, hosts, shown, cellsWritten, Fit, Shows, Demand3}
+use Rattle.model.specs.Histories.{isRefused, inLog, History, wholeLog, stood, ranTo, Passed, Carried, carried, Opening, fresh, atCheckpoint, opened, Play, played, plays, hosts, shown, cellsWritten}
+use Rattle.model.specs.Claims.{Fit, Shows, Demand3}
 use Rattle.laws.proofs.Tables.{length-cells}
 use Rattle.claims.proofs.Cells.{how-many}
 use Rattle.claims.proofs.Runs.{run, same-version}

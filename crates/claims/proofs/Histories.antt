@@ -18,7 +18,7 @@ use Rattle.model.specs.Rules.{okEntry, lowestBad}
 use Rattle.model.specs.Answers.{Answer, done, refused, slots, badFrame}
 use Rattle.model.specs.Append.{Request, entryOf}
 use Rattle.model.specs.Run.{Fed, start, accept, runAt}
-use Rattle.model.specs.Claims.{Lent, inLog, tailAfter, isRefused, appendTo, after, grown, feed, empty, History, wholeLog, stood, ranTo}
+use Rattle.model.specs.Histories.{Lent, inLog, tailAfter, isRefused, appendTo, after, grown, feed, empty, History, wholeLog, stood, ranTo}
 use Rattle.laws.proofs.Agree.{Agree, fewer}
 use Rattle.laws.proofs.Appends.{accepted, refused-same, good-kept}
 use Rattle.claims.proofs.Runs.{run, run-start, count-run, run-agree, run-next}

@@ -11,7 +11,8 @@ use Rattle.model.specs.Slot.{logIn, logOf}
 use Rattle.model.specs.Rules.{lowestBad}
 use Rattle.model.specs.Answers.{Answer, done, refused}
 use Rattle.model.specs.Append.{Request}
-use Rattle.model.specs.Claims.{Lent, inLog, tailAfter, appendTo, after, grown, empty, KeepsGood}
+use Rattle.model.specs.Histories.{Lent, inLog, tailAfter, appendTo, after, grown, empty}
+use Rattle.model.specs.Claims.{KeepsGood}
 use Rattle.laws.proofs.Refusals.{below-good}
 use Rattle.laws.proofs.Appends.{accepted, refused-same}
 

@@ -19,7 +19,8 @@ use Rattle.model.specs.Answers.{Refusal}
 use Rattle.model.specs.Append.{Replica}
 use Rattle.model.specs.Replica.{playRefusal, leftBy, playGiven, playFrom, playCall}
 use Rattle.model.specs.Run.{current}
-use Rattle.model.specs.Claims.{Lent, inLog, History, wholeLog, stood, Carried, carried, Play, played, plays, hosts, SameOutcomes}
+use Rattle.model.specs.Histories.{Lent, inLog, History, wholeLog, stood, Carried, carried, Play, played, plays, hosts}
+use Rattle.model.specs.Claims.{SameOutcomes}
 use Rattle.laws.proofs.Agree.{fewer}
 use Rattle.claims.proofs.Cells.{Shown}
 use Rattle.claims.proofs.Runs.{run, run-agree}

@@ -18,7 +18,8 @@ use Rattle.model.specs.Slot.{markOf, itemBytes, itemCount, slotOf, logIn, logOf
 use Rattle.model.specs.Answers.{done, refuse, answer, frameAndEntries}
 use Rattle.model.specs.Reading.{Header, headerAt, kindIn, infoIn, entryRefusal, entryCall, stretch, orEmpty, itemList}
 use Rattle.model.specs.Append.{Request, update, commits, decides, saves, writesGiven, entryOf, notWhole, ownTests, appendRefusal}
-use Rattle.model.specs.Claims.{Lent, inLog, tailAfter, appendTo, after, Bytes, givenItems, kindGiven, infoBack, itemsBack, headerObjectsIn, Accepted, Back, ReadsBack}
+use Rattle.model.specs.Histories.{Lent, inLog, tailAfter, appendTo, after, Accepted}
+use Rattle.model.specs.Claims.{Bytes, givenItems, kindGiven, infoBack, itemsBack, headerObjectsIn, Back, ReadsBack}
 use Rattle.laws.specs.Headers.{objectsIn}
 use Rattle.laws.proofs.Slots.{Kept, headers-few, number-fits, items-few, slot-mark, slot-count, slot-number, slot-items}
 use Rattle.laws.proofs.Stored.{given-writes, given-reads, update-items}

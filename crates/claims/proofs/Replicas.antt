@@ -20,7 +20,8 @@ use Rattle.model.specs.Play.{Played, going, waits, lacks, cellsIn}
 use Rattle.model.specs.Answers.{Refusal, done, refuse, answer, firstOf, frameAndEntries}
 use Rattle.model.specs.Append.{badRecord, badReplica}
 use Rattle.model.specs.Replica.{Left, plainly, leftWith, openFresh, Checkpoint, checkpointIn, openRefusal, openGiven, openAt, badStop, playRefusal, leftBy, playGiven, playFrom, playCall}
-use Rattle.model.specs.Claims.{isRefused, Carried, carried, ifOpened, ifFresh, hosts, cellsWritten, Waiting}
+use Rattle.model.specs.Histories.{isRefused, Carried, carried, ifOpened, ifFresh, hosts, cellsWritten}
+use Rattle.model.specs.Claims.{Waiting}
 use Rattle.model.specs.Worked.{code}
 use Rattle.laws.proofs.Refusals.{not-none, all-pass, refuse-none}
 use Rattle.laws.proofs.Agree.{fewer}

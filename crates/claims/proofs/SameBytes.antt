@@ -13,7 +13,8 @@ use Rattle.model.specs.Slot.{markUpdate, markCommit, markDecision, markCheckpoi
 use Rattle.model.specs.Answers.{Answer, done, refused}
 use Rattle.model.specs.Reading.{Info}
 use Rattle.model.specs.Append.{Request, update, commits, decides, saves, writesGiven, entryOf}
-use Rattle.model.specs.Claims.{Lent, inLog, kindGiven, infoBack, headerObjectsIn, Accepted, Back, SameBytes}
+use Rattle.model.specs.Histories.{Lent, inLog, Accepted}
+use Rattle.model.specs.Claims.{kindGiven, infoBack, headerObjectsIn, Back, SameBytes}
 use Rattle.laws.proofs.Slots.{length-items}
 use Rattle.laws.proofs.ByKind.{update-mark}
 use Rattle.claims.proofs.ReadBack.{left-bytes, items-left, reads-back}

@@ -18,7 +18,7 @@ use Rattle.model.specs.Rules.{okWrite}
 use Rattle.model.specs.Table.{Cell, Holds, lookup, apply, versionIn}
 use Rattle.model.specs.Play.{Played, going, waits, lacks, commitsOver, alone, saysCommit, outcome, make, finish, act, step, andThen, play}
 use Rattle.model.specs.Run.{current, madeAll}
-use Rattle.model.specs.Claims.{cellsWritten}
+use Rattle.model.specs.Histories.{cellsWritten}
 use Rattle.claims.proofs.Cells.{Shown, nothing-shown, how-many, all-writes}
 use Rattle.claims.proofs.Runs.{cellsAfter, run, run-start, aside-run, cells-run, commitsAt, version-same}
 

@@ -16,7 +16,8 @@ use Rattle.model.specs.Entries.{Write, Commit, Entry, plain, numbered, commit, 
 use Rattle.model.specs.Table.{Cell, lookup, apply}
 use Rattle.model.specs.Play.{Played, going, waits, lacks, commitsOver, alone, saysCommit, make, finish, act, step, andThen, play}
 use Rattle.model.specs.Replica.{plainly, leftBy}
-use Rattle.model.specs.Claims.{blocked, Waiting, isRefused}
+use Rattle.model.specs.Histories.{isRefused}
+use Rattle.model.specs.Claims.{blocked, Waiting}
 use Rattle.model.specs.Worked.{code}
 
 -- what a step at p says of whether the entry there is blocked

@@ -21,7 +21,7 @@ use Rattle.model.specs.Answers.{Answer, done, badFrame}
 use Rattle.model.specs.Append.{Request, update, commits, decides, saves, claimGiven, entryOf, ownTests, append}
 use Rattle.model.specs.Replica.{Left, plainly, openFresh, openAt, playCall, readCell, audit}
 use Rattle.model.specs.Run.{Fed, Run, start, current, accept, runAt}
-use Rattle.model.specs.Claims.{Lent, isRefused, inLog, appendTo, grown, feed, empty, History, wholeLog, stood, ranTo, Passed, Carried, carried, ifOpened, fresh, atCheckpoint, opened, Play, played, plays, shown}
+use Rattle.model.specs.Histories.{Lent, isRefused, inLog, appendTo, grown, feed, empty, History, wholeLog, stood, ranTo, Passed, Carried, carried, ifOpened, fresh, atCheckpoint, opened, Play, played, plays, shown}
 use Rattle.model.specs.Worked.{put, read, cell}
 
 -- a table with room for two cells

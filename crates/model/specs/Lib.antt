@@ -9,6 +9,8 @@ pub mod Reading
 pub mod Append
 pub mod Replica
 pub mod Run
+pub mod Histories
+pub mod Conditions
 pub mod Claims
 pub mod Report
 pub mod Worked

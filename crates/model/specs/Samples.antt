@@ -14,9 +14,9 @@ use Rattle.lists.specs.Rows.{values, joined}
 use Rattle.lists.specs.First.{first, firstFrom}
 use Rattle.lists.specs.Picks.{picks}
 use Rattle.lists.specs.Equal.{eqList}
-use Rattle.lists.specs.Sets.{all, isEmpty, mem, meets}
+use Rattle.lists.specs.Sets.{all, any, isEmpty, mem, meets}
 use Rattle.model.specs.Objects.{Object, ObjectKind, aMap, aRegister, Shape, isObject, isCell, isMarked, hosted}
-use Rattle.model.specs.Entries.{Read, Held, Log, commitAt, ifSome, isNone, writesOf, closed, decided, headerObjects, numberOf, earlier, commitObjects}
+use Rattle.model.specs.Entries.{Read, Held, Log, decides as decidesFor, commitAt, ifSome, isNone, writesOf, closed, decided, headerObjects, numberOf, earlier, commitObjects}
 use Rattle.model.specs.Slot.{writeBytes, writeAt, readBytes, readAt, savedBytes, savedAt, itemBytes, itemCount, headerOf, slotOf, decode, slot, logIn}
 use Rattle.model.specs.Rules.{okEntry, lowest, lowestBad, okWrite, okWrites, okRead, okReads, okSaved, narrow, goodAt}
 use Rattle.model.specs.Table.{Cell, Holds, cellAt, cellBytes, cellsOf, tableWith, capacity, apply, savedOf, versionIn, lookup, store}
@@ -26,7 +26,8 @@ use Rattle.model.specs.Reading.{Info, owed, entryCall, itemList, infoIn}
 use Rattle.model.specs.Append.{Request, update, commits, decides, saves, entryOf, ownTests, append}
 use Rattle.model.specs.Replica.{Left, openFresh, openAt, playCall, readCell, audit, sameContent}
 use Rattle.model.specs.Run.{Run, start, current, accept, runAt}
-use Rattle.model.specs.Claims.{Lent, inLog, empty, after, grown, feed, History, wholeLog, stood, Carried, carried, Opening, fresh, atCheckpoint, opened, hosts, shown, cellsWritten, blocked, givenItems, kindGiven, headerObjectsIn}
+use Rattle.model.specs.Histories.{Lent, inLog, empty, after, grown, feed, History, wholeLog, stood, Carried, carried, Opening, fresh, atCheckpoint, opened, hosts, shown, cellsWritten}
+use Rattle.model.specs.Claims.{kindGiven, headerObjectsIn}
 use Rattle.model.specs.Worked.{code, put, read, cell}
 
 -- the eight objects with fewer keys, so that every cell can be looked at
@@ -91,6 +92,12 @@ abbrev pub isInfo : Answer Info → ℕ → ℕ → List ℕ → Bool
 isInfo (done i) k n os = eqb i.kind k && eqb i.number n && eqList (headerObjectsIn i) os
 isInfo (refused r) k n os = false
 
+abbrev pub givenItems : Request → List ℕ
+givenItems (update n items) = items
+givenItems (commits n items) = items
+givenItems (decides o v) = itemBytes (entryOf (decides o v))
+givenItems (saves r table o) = itemBytes (entryOf (saves r table o))
+
 abbrev pub backHolds : Lent → Request → Lent → Bool
 backHolds l q new =
     let log = inLog new in
@@ -100,6 +107,12 @@ backHolds l q new =
 abbrev pub backsHold : Lent → List Request → Bool
 backsHold l [] = true
 backsHold l (q ∷ qs) = let new = after small l q in (eqb (new .tail) (l .tail) || backHolds l q new) && backsHold new qs
+
+-- Blocked as a test
+abbrev pub blocked : Log → List ℕ → ℕ → Bool
+blocked log set q = ifSome (commitAt log q) false (λ c. meets set (commitObjects log q (c .number))
+    && any (λ (x : Read). not (mem x.object set)) (c .claim .reads)
+    && below (λ d. isNone (decidesFor q (log .entry d) none)) (log .tail))
 
 -- Shows, with the next play of the sample
 abbrev pub waitsHold : Log → List ℕ → ℕ → ℕ → Left → Bool

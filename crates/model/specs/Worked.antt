@@ -22,7 +22,7 @@ use Rattle.model.specs.Answers.{Answer, done, refused, badFrame}
 use Rattle.model.specs.Append.{Request, update, commits, decides, entryOf, ownTests, append}
 use Rattle.model.specs.Replica.{Left, playCall, audit}
 use Rattle.model.specs.Report.{Outcome, outcomes, report}
-use Rattle.model.specs.Claims.{Lent, inLog, empty, grown}
+use Rattle.model.specs.Histories.{Lent, inLog, empty, grown}
 
 -- Arguments of appends, as bytes.
 abbrev pub put : ℕ → ℕ → ℕ → List ℕ

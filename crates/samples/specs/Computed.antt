@@ -23,7 +23,7 @@ use Rattle.model.specs.Reading.{owed, entryCall, itemList, infoIn}
 use Rattle.model.specs.Append.{Request, update, commits, decides, entryOf, ownTests, append}
 use Rattle.model.specs.Replica.{openFresh, openAt, playCall, readCell, audit}
 use Rattle.model.specs.Run.{accept, runAt}
-use Rattle.model.specs.Claims.{empty, grown, feed, fresh, atCheckpoint}
+use Rattle.model.specs.Histories.{empty, grown, feed, fresh, atCheckpoint}
 use Rattle.model.specs.Worked.{put, remove, read, cell}
 use Rattle.model.specs.Samples.{Sample, sampleHolds, backsHold, to, but, five, one, all8, only2, only5, save, both, across, passes, fails, owing}
 

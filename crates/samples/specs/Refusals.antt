@@ -10,7 +10,7 @@ use lib.ListN.{replicate}
 use Rattle.lists.specs.Picks.{picks}
 use Rattle.model.specs.Reading.{Next, Listed, streamNext, streamList, offsetsOf}
 use Rattle.model.specs.Append.{Replica, Request, update, commits, decides, saves, append}
-use Rattle.model.specs.Claims.{Lent, inLog, empty, grown}
+use Rattle.model.specs.Histories.{Lent, inLog, empty, grown}
 use Rattle.model.specs.Worked.{code, put, read}
 use Rattle.model.specs.Samples.{small, tells, sameOffset}
 use Rattle.lists.specs.Bytes.{beAt, bytesOf}
@@ -29,7 +29,7 @@ use Rattle.model.specs.Reading.{owed, entryCall, itemList, infoIn}
 use Rattle.model.specs.Append.{entryOf, ownTests}
 use Rattle.model.specs.Replica.{openFresh, openAt, playCall, readCell, audit}
 use Rattle.model.specs.Run.{accept, runAt}
-use Rattle.model.specs.Claims.{feed}
+use Rattle.model.specs.Histories.{feed}
 
 -- four entries: a plain update, number 9's update, its commit record, its decision
 abbrev base : List Request

@@ -1,0 +1,170 @@
+-- The conditions that the demands name, in words of their own: over the entries of a log, the items that were given and the
+-- cells of a table, and by no test of the calls that are to be judged.
+use Prim.Native.Nat.{ℕ, _+_, _*_, _<_, _≤_, _^_}
+use mathlib.Core.Path.{_≡_}
+use mathlib.Core.Logic.{_⊎_}
+use mathlib.Core.Bool.{true, false, cond}
+use mathlib.Core.List.{List, [], _∷_, List·Memᴰ}
+use mathlib.Core.Option.{Option, none, some}
+use lib.Dec.{eqb}
+use lib.ListN.{length}
+use Rattle.lists.specs.Sets.{mem}
+use Rattle.model.specs.Objects.{Shape, isCell, hosted}
+use Rattle.model.specs.Entries.{Write, Read, Held, Saved, Claim, numbered, commit, decision, Log}
+use Rattle.model.specs.Slot.{slotSize, mostSlots}
+use Rattle.model.specs.Rules.{goodAt}
+use Rattle.model.specs.Table.{Holds, cellsOf, capacity, versionIn, lookup}
+use Rattle.model.specs.Answers.{done}
+use Rattle.model.specs.Append.{Replica, Request, update, commits, decides, saves, writesGiven, claimGiven}
+use Rattle.model.specs.Replica.{Left, plainly}
+use Rattle.model.specs.Histories.{Lent, inLog, Carried}
+
+-- ---- the log
+
+-- the lent bytes are whole slots, not too many, and the tail is not above them
+pub record Framed (l : Lent) : Type 0 where
+  pub slots : ℕ
+  pub whole : length (l .bytes) ≡ slotSize * slots
+  pub few : slots ≤ mostSlots
+  pub used : l .tail ≤ slots
+
+-- no entry below the tail breaks the slot rules
+abbrev pub AllGood : Shape → Log → Type 0
+AllGood sh log = (p : ℕ) → p < log .tail → goodAt sh log p ≡ true
+
+-- an update with number n below p makes this write
+pub record SetAside (log : Log) (n p : ℕ) (w : Write) : Type 0 where
+  pub at : ℕ
+  pub writes : List Write
+  pub below : at < p
+  pub here : log .entry at ≡ numbered n writes
+  pub one : List·Memᴰ w writes
+
+-- number n has a commit record below p
+abbrev pub Committed : Log → ℕ → ℕ → Type 0
+Committed log n p = (q : ℕ) × (c : Claim) × (q < p) × (log .entry q ≡ commit n c)
+
+-- a decision record below p names the commit record at q
+abbrev pub Decided : Log → ℕ → ℕ → Type 0
+Decided log q p = (d : ℕ) × (v : ℕ) × (d < p) × (log .entry d ≡ decision q v)
+
+-- ---- commit records
+
+-- some cell that was read has another version than the read's
+abbrev pub Stale : Holds → Claim → Type 0
+Stale cells c = (x : Read) × List·Memᴰ x (c .reads) × (versionIn (cells x.object x.key) ≡ x .version → ⊥)
+
+-- the commit record of number n at p is of one of the set's objects: an update of its number writes it
+abbrev pub Concerns : Log → List ℕ → ℕ → ℕ → Type 0
+Concerns log set n p = (w : Write) × SetAside log n p w × (mem w.object set ≡ true)
+
+-- at q stands a commit record of the set's objects that reads an object outside the set, and that no decision record below the
+-- tail names
+pub record Blocked (log : Log) (set : List ℕ) (q : ℕ) : Type 0 where
+  pub number : ℕ
+  pub claim : Claim
+  pub here : log .entry q ≡ commit number claim
+  pub concerns : Concerns log set number q
+  pub outside : (x : Read) × List·Memᴰ x (claim .reads) × (mem x.object set ≡ false)
+  pub undecided : Decided log q (log .tail) → ⊥
+
+-- ---- plays
+
+-- the record and the stop of a play: a hosted set, the counted cells within the table, and a stop from the position to the tail
+pub record Fit (tail : ℕ) (r : Carried) (stop : ℕ) : Type 0 where
+  pub hosting : r .replica .hosting ≡ 0 → ⊥
+  pub counted : r .replica .count ≤ capacity (r .table)
+  pub onward : r .replica .position ≤ stop
+  pub within : stop ≤ tail
+
+-- nothing refuses the play
+pub record Playable (sh : Shape) (l : Lent) (r : Carried) (stop : ℕ) : Type 0 where
+  pub framed : Framed l
+  pub good : AllGood sh (inLog l)
+  pub fit : Fit (l .tail) r stop
+
+-- how a play ends that nothing refused: at its stop, or before it, waiting or without room
+pub data Ended (stop : ℕ) (out : Left) : Type 0 where
+  there : out .answer ≡ done tt → out .replica .position ≡ stop → Ended stop out
+  waiting : out .answer ≡ plainly 12 → out .replica .position < stop → Ended stop out
+  noRoom : out .answer ≡ plainly 13 → out .replica .position < stop → Ended stop out
+
+-- ---- appends
+
+-- these writes are of at most n objects
+abbrev pub AtMost : ℕ → (Write → Type 0) → Type 0
+AtMost n Made = (os : List ℕ) × (length os ≤ n) × ((w : Write) → Made w → mem w.object os ≡ true)
+
+-- a write of a listed cell: a put, or a remove with the value 0; the value fits its field
+pub record Writes (sh : Shape) (w : Write) : Type 0 where
+  pub cell : isCell sh w.object w.key ≡ true
+  pub operation : (w .operation ≡ 1) ⊎ ((w .operation ≡ 2) × (w .value ≡ 0))
+  pub small : w .value < 2 ^ 32
+
+pub record UpdateAllowed (sh : Shape) (log : Log) (n : ℕ) (items : List ℕ) : Type 0 where
+  pub whole : length items ≡ 16 * length (writesGiven items)
+  pub number : n < 2 ^ 32
+  pub some : 1 ≤ length (writesGiven items)
+  pub few : length (writesGiven items) ≤ sh .items
+  pub each : (w : Write) → List·Memᴰ w (writesGiven items) → Writes sh w
+  pub narrow : AtMost (sh .headers) (λ w. List·Memᴰ w (writesGiven items))
+  -- of a transaction: it has no commit record yet, and all its updates together are narrow
+  pub uncommitted : (n ≡ 0 → ⊥) → Committed log n (log .tail) → ⊥
+  pub together : (n ≡ 0 → ⊥) → AtMost (sh .headers) (λ w. SetAside log n (log .tail) w ⊎ List·Memᴰ w (writesGiven items))
+
+-- each read is of a smaller object than the next, or of the same and a smaller key
+abbrev pub Ascend : List Read → Type 0
+Ascend [] = Unit {0}
+Ascend (r ∷ []) = Unit {0}
+Ascend (r ∷ s ∷ rs) = ((r .object < s .object) ⊎ ((r .object ≡ s .object) × (r .key < s .key))) × Ascend (s ∷ rs)
+
+pub record CommitAllowed (sh : Shape) (log : Log) (n : ℕ) (items : List ℕ) : Type 0 where
+  pub whole : length items ≡ 16 * length (claimGiven items .reads)
+  pub number : (1 ≤ n) × (n < 2 ^ 32)
+  pub few : length (claimGiven items .reads) ≤ sh .items
+  pub each : (x : Read) → List·Memᴰ x (claimGiven items .reads) → (isCell sh x.object x.key ≡ true) × (x .version ≤ log .tail)
+  pub ascend : Ascend (claimGiven items .reads)
+  pub uncommitted : Committed log n (log .tail) → ⊥
+  pub updated : (w : Write) × SetAside log n (log .tail) w
+
+pub record DecisionAllowed (log : Log) (o v : ℕ) : Type 0 where
+  pub below : o < log .tail
+  pub outcome : (v ≡ 1) ⊎ (v ≡ 2)
+  pub commits : (n : ℕ) × (c : Claim) × (log .entry o ≡ commit n c)
+  pub undecided : Decided log o (log .tail) → ⊥
+
+-- a checkpoint's cell: of a listed key, with a version from 1 to the tail; the value fits its field
+pub record Saves (sh : Shape) (tail o k : ℕ) (h : Held) : Type 0 where
+  pub cell : isCell sh o k ≡ true
+  pub written : 1 ≤ h .version
+  pub past : h .version ≤ tail
+  pub small : (v : ℕ) → h .content ≡ some v → v < 2 ^ 32
+
+pub record CheckpointAllowed (sh : Shape) (log : Log) (r : Replica) (table : List ℕ) (o : ℕ) : Type 0 where
+  pub hosting : r .hosting ≡ 0 → ⊥
+  pub counted : r .count ≤ capacity table
+  pub there : r .position ≡ log .tail
+  pub hosts : mem o (hosted sh (r .hosting)) ≡ true
+  pub each : (k : ℕ) (h : Held) → lookup (cellsOf table (r .count)) o k ≡ some h → Saves sh (log .tail) o k h
+  -- the written keys are few
+  pub few : (ks : List ℕ) × (length ks ≤ sh .items) × ((k : ℕ) (h : Held) → lookup (cellsOf table (r .count)) o k ≡ some h → mem k ks ≡ true)
+
+abbrev pub Allowed : Shape → Log → Request → Type 0
+Allowed sh log (update n items) = UpdateAllowed sh log n items
+Allowed sh log (commits n items) = CommitAllowed sh log n items
+Allowed sh log (decides o v) = DecisionAllowed log o v
+Allowed sh log (saves r table o) = CheckpointAllowed sh log r table o
+
+-- no line of document 01's table stops the append
+pub record Unstopped (sh : Shape) (l : Lent) (q : Request) : Type 0 where
+  pub framed : Framed l
+  pub good : AllGood sh (inLog l)
+  pub free : slotSize * (l .tail + 1) ≤ length (l .bytes)
+  pub allowed : Allowed sh (inLog l) q
+
+-- ---- checkpoints
+
+-- what a checkpoint's cells say of a key
+abbrev pub savedFor : List Saved → ℕ → Option Held
+savedFor [] k = none
+savedFor (c ∷ cs) k = cond (eqb c.key k) (some (c .held)) (savedFor cs k)
