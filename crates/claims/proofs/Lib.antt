@@ -7,7 +7,9 @@ pub mod Counts
 pub mod Cells
 pub mod Runs
 pub mod Steps
+pub mod Reached
 pub mod Waits
+pub mod Leaves
 pub mod Audits
 pub mod Openings
 pub mod Histories
