@@ -25,14 +25,14 @@ use Rattle.model.specs.Claims.{Bytes}
 use Rattle.records.specs.Record.{replicaIn}
 use Rattle.calls.specs.Claims.{leftOf, CallsInstalments}
 use Rattle.laws.proofs.Items.{fitsCell}
-use Rattle.laws.proofs.Tables.{length-cells, cells-back}
+use Rattle.laws.proofs.Tables.{length-cells, cells-back, cells-fit}
 use Rattle.laws.proofs.Slots.{Kept, writes-ok}
 use Rattle.laws.proofs.Appends.{good-kept}
 use Rattle.laws.proofs.Refusals.{all-pass, refuse-none, refuseAt-none}
 use Rattle.laws.proofs.Room.{play-fits, length-with}
 use Rattle.claims.proofs.Audits.{tail-small}
 use Rattle.claims.proofs.Reached.{play-on, standsAt, Reached, play-reached}
-use Rattle.table.specs.Stored.{cells-fit, table-again}
+use Rattle.table.specs.Stored.{table-again}
 use Rattle.player.specs.MakeLaws.{apply-fits}
 use Rattle.player.specs.PlayLaws.{step-grows}
 

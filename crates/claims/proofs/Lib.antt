@@ -15,6 +15,7 @@ pub mod Openings
 pub mod Histories
 pub mod Replicas
 pub mod Demand3
+pub mod Across
 pub mod Outcomes
 pub mod Demand2
 pub mod Depots
