@@ -1,4 +1,5 @@
 pub mod Histories
+pub mod Promises
 pub mod Behave
 pub mod ReadBack
 pub mod KeepGood
