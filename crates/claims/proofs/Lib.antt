@@ -8,6 +8,7 @@ pub mod Runs
 pub mod Steps
 pub mod Waits
 pub mod Audits
+pub mod NeverWaits
 pub mod Openings
 pub mod Histories
 pub mod Replicas
