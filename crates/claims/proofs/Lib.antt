@@ -10,6 +10,7 @@ pub mod Waits
 pub mod Audits
 pub mod NeverWaits
 pub mod Openings
+pub mod Checkpoints
 pub mod Histories
 pub mod Replicas
 pub mod Demand3
