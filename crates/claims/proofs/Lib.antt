@@ -1,3 +1,4 @@
+pub mod Conditions
 pub mod Aborts
 pub mod ReadBack
 pub mod SameBytes
