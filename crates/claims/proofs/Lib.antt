@@ -12,6 +12,7 @@ pub mod Audits
 pub mod NeverWaits
 pub mod Openings
 pub mod Checkpoints
+pub mod Opened
 pub mod Histories
 pub mod Replicas
 pub mod Demand3

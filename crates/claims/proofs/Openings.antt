@@ -128,7 +128,7 @@ module _ (o : ℕ) where
       both (absent c.key d cs (ltb-true (c .key) (d .key) (first-leads savedBefore c (d ∷ cs) a)) r) (ascending-distinct (d ∷ cs) r)
 
   module _ (sh : Shape) (shape : okShape sh ≡ true) (p : ℕ) (few : p ≤ 131072) where
-    loaded-owned : (cs : List Saved) → all (okSaved sh p o) cs ≡ true → all (owned sh (o ∷ [])) (loaded o cs) ≡ true
+    pub loaded-owned : (cs : List Saved) → all (okSaved sh p o) cs ≡ true → all (owned sh (o ∷ [])) (loaded o cs) ≡ true
     unfolding okSaved owned isCell
     loaded-owned [] h = refl
     loaded-owned (c ∷ cs) h =
