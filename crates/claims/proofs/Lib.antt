@@ -7,6 +7,7 @@ pub mod Counts
 pub mod Cells
 pub mod Runs
 pub mod Steps
+pub mod Growing
 pub mod Waits
 pub mod Audits
 pub mod NeverWaits
