@@ -14,7 +14,9 @@ pub mod NeverWaits
 pub mod Openings
 pub mod Checkpoints
 pub mod Opened
+pub mod Judged
 pub mod Histories
+pub mod AuditExactly
 pub mod Replicas
 pub mod Demand3
 pub mod Outcomes
