@@ -8,7 +8,9 @@ pub mod Cells
 pub mod Runs
 pub mod Steps
 pub mod Growing
+pub mod Reached
 pub mod Waits
+pub mod Leaves
 pub mod Audits
 pub mod NeverWaits
 pub mod Openings
@@ -19,6 +21,7 @@ pub mod Histories
 pub mod AuditExactly
 pub mod Replicas
 pub mod Demand3
+pub mod Across
 pub mod Outcomes
 pub mod Demand2
 pub mod Depots
