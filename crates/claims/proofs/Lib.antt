@@ -23,5 +23,6 @@ pub mod Replicas
 pub mod Demand3
 pub mod Across
 pub mod Outcomes
+pub mod Demand1
 pub mod Demand2
 pub mod Depots
