@@ -1,3 +1,5 @@
+pub mod Few
+pub mod Later
 pub mod Aborts
 pub mod ReadBack
 pub mod SameBytes
