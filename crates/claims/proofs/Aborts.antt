@@ -8,6 +8,7 @@ use mathlib.Core.Option.{some, Option·some-injective}
 use lib.Dec.{eqb}
 use borrow.Author.Tests.{eqb-true, eqb-false, ne-eqb}
 use Rattle.lists.specs.Sets.{all}
+use Rattle.lists.specs.Members.{all-false, false-all}
 use Rattle.lists.specs.Tests.{clash}
 use Rattle.model.specs.Objects.{Shape}
 use Rattle.model.specs.Entries.{Read, Claim}
@@ -18,27 +19,6 @@ use Rattle.model.specs.Run.{hasVersion, current, accept, madeAll}
 use Rattle.model.specs.Conditions.{Stale}
 use Rattle.model.specs.Claims.{RunAborts, ReplicaAborts}
 use Rattle.claims.proofs.Runs.{version-same}
-
--- ---- a list's test that fails
-
-module _ {A : Type 0} (f : A → Bool) where
-  pub all-false : (xs : List A) → all f xs ≡ false → (x : A) × List·Memᴰ x xs × (f x ≡ false)
-  all-false [] e = clash true refl e
-  all-false (x ∷ xs) e = by (f x) refl e (λ r. all-false xs r)
-    where
-      by : (b : Bool) → f x ≡ b → (b && all f xs) ≡ false → (all f xs ≡ false → (y : A) × List·Memᴰ y xs × (f y ≡ false))
-          → (y : A) × List·Memᴰ y (x ∷ xs) × (f y ≡ false)
-      by true q r ih = let (y, m, h) = ih r in (y, List·Memᴰ·tail m, h)
-      by false q r ih = (x, List·Memᴰ·head refl, q)
-
-  pub false-all : (x : A) (xs : List A) → List·Memᴰ x xs → f x ≡ false → all f xs ≡ false
-  false-all x [] m h = absurd (List·Memᴰ·not-nil m)
-  false-all x (y ∷ ys) m h = by (List·Memᴰ·cases-cons m) (λ n. false-all x ys n h) (f y) refl
-    where
-      by : (x ≡ y) ⊎ List·Memᴰ x ys → (List·Memᴰ x ys → all f ys ≡ false) → (b : Bool) → f y ≡ b → (b && all f ys) ≡ false
-      by (inl e) ih true q = clash (f y) q (ap f (sym e) ∙ h)
-      by (inr n) ih true q = ih n
-      by s ih false q = refl
 
 -- ---- stale reads, by any test that fails exactly for a read of another version
 

@@ -1,9 +1,10 @@
-pub mod Few
-pub mod Later
+pub mod Conditions
 pub mod Aborts
 pub mod ReadBack
 pub mod SameBytes
 pub mod KeepsGood
+pub mod Few
+pub mod Later
 pub mod Counts
 pub mod Cells
 pub mod Runs

@@ -10,3 +10,4 @@ pub mod Picks
 pub mod Fold
 pub mod Equal
 pub mod Walk
+pub mod Members
