@@ -1,51 +1,15 @@
--- Lists in words: what a test of every element says of each, and which numbers a list has; and a strictly ascending list whose
--- members all are in another list is not longer than it, since each member can be taken out of the other once.
+-- A strictly ascending list whose members all are in another list is not longer than it, since each member can be taken out of
+-- the other once; so the numbers of a list are few where some short list has them all.
 use Prim.Native.Nat.{ℕ, suc, _<_, _≤_}
 use mathlib.Core.Path.{_≡_, refl, ap, sym, _∙_}
-use mathlib.Core.Logic.{_⊎_, inl, inr, ⊎-elim}
 use mathlib.Core.Bool.{Bool, true, false, cond, _||_}
-use mathlib.Core.List.{List, [], _∷_, map, List·Memᴰ, List·Memᴰ·head, List·Memᴰ·tail, List·Memᴰ·cases-cons, List·Memᴰ·not-nil}
+use mathlib.Core.List.{List, [], _∷_}
 use native.Mathlib.Omega.{arith}
-use borrow.Author.Tests.{eqb-true, eqb-false, eq-eqb, ltb-true}
+use borrow.Author.Tests.{eqb-true, eq-eqb, ltb-true}
 use lib.Dec.{eqb, ltb}
 use lib.ListN.{length}
-use Rattle.lists.specs.Tests.{and-l, and-r, both, or-case, clash}
-use Rattle.lists.specs.Sets.{all, mem, ascending, ascendingSet, ascending-set, mem-set, first-leads, rest-ascends}
-
--- ---- a test of every element
-
-module _ {A : Type 0} (f : A → Bool) where
-  pub all-at : (xs : List A) → all f xs ≡ true → (x : A) → List·Memᴰ x xs → f x ≡ true
-  all-at [] h x m = absurd (List·Memᴰ·not-nil m)
-  all-at (y ∷ ys) h x m =
-      ⊎-elim (λ e. ap f e ∙ and-l (f y) (all f ys) h) (λ n. all-at ys (and-r (f y) (all f ys) h) x n) (List·Memᴰ·cases-cons m)
-
-  pub at-all : (xs : List A) → ((x : A) → List·Memᴰ x xs → f x ≡ true) → all f xs ≡ true
-  at-all [] h = refl
-  at-all (y ∷ ys) h = both (h y (List·Memᴰ·head refl)) (at-all ys (λ x m. h x (List·Memᴰ·tail m)))
-
--- ---- the numbers of a list
-
-module _ {A : Type 0} (g : A → ℕ) where
-  pub mem-map : (x : ℕ) (ys : List A) → mem x (map g ys) ≡ true → (y : A) × List·Memᴰ y ys × (g y ≡ x)
-  mem-map x [] h = clash false h refl
-  mem-map x (y ∷ ys) h =
-      or-case (eqb (g y) x) (mem x (map g ys)) h (λ e. (y, List·Memᴰ·head refl, eqb-true (g y) x e))
-      (λ m. let (z, i, e) = mem-map x ys m in (z, List·Memᴰ·tail i, e))
-
-  pub map-mem : (x : ℕ) (ys : List A) (y : A) → List·Memᴰ y ys → g y ≡ x → mem x (map g ys) ≡ true
-  map-mem x [] y m e = absurd (List·Memᴰ·not-nil m)
-  map-mem x (z ∷ ys) y m e = go (List·Memᴰ·cases-cons m) (λ n. map-mem x ys y n e)
-    where
-      either : (b : Bool) → mem x (map g ys) ≡ true → (b || mem x (map g ys)) ≡ true
-      either true h = refl
-      either false h = h
-
-      go : (y ≡ z) ⊎ List·Memᴰ y ys → (List·Memᴰ y ys → mem x (map g ys) ≡ true) → (eqb (g z) x || mem x (map g ys)) ≡ true
-      go (inl i) ih = rw (eq-eqb (g z) x (ap g (sym i) ∙ e))
-      go (inr n) ih = either (eqb (g z) x) (ih n)
-
--- ---- the members of an ascending list, in another
+use Rattle.lists.specs.Tests.{or-case, clash}
+use Rattle.lists.specs.Sets.{mem, ascending, ascendingSet, ascending-set, mem-set, first-leads, rest-ascends}
 
 -- the list without the first x
 abbrev without : ℕ → List ℕ → List ℕ
