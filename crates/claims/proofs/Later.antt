@@ -1,21 +1,18 @@
 -- A log after later appends: it is framed and good as it was, no shorter, and its used slots have the bytes that they had, since
 -- each append is refused or writes a slot above them. By induction over the appends.
 use Prim.Native.Nat.{ℕ, zero, suc, _+_, _*_, _<_, _≤_}
-use mathlib.Core.Path.{_≡_, refl, ap, sym, _∙_, subst}
+use mathlib.Core.Path.{_≡_, refl, ap, sym, _∙_}
 use mathlib.Core.Bool.{true, false}
 use mathlib.Core.List.{List, [], _∷_}
-use mathlib.Core.Option.{none}
 use native.Mathlib.Omega.{arith}
 use lib.ListN.{take, drop}
 use lib.Seq.{take-take, take-nil}
 use Rattle.model.specs.Objects.{Shape, okShape}
-use Rattle.model.specs.Slot.{slot, logOf}
-use Rattle.model.specs.Rules.{lowestBad}
+use Rattle.model.specs.Slot.{slot}
 use Rattle.model.specs.Answers.{Answer, done, refused, badFrame}
 use Rattle.model.specs.Append.{Request}
 use Rattle.model.specs.Histories.{Lent, inLog, tailAfter, appendTo, after, grown}
 use Rattle.laws.proofs.Appends.{accepted, refused-same}
-use Rattle.claims.proofs.KeepsGood.{grown-good}
 
 -- ---- a part of the bytes
 
