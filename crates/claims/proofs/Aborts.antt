@@ -1,23 +1,22 @@
--- A transaction aborts exactly on a stale read, in the run and in a replica that hosts all objects read: each of the two tests
--- fails exactly for a read of another version than its cell's, and a list's test fails exactly where one of its elements does.
+-- A transaction aborts in the run exactly on a stale read, and the player's test of reads fails exactly there: each of the two
+-- fails for a read of another version than its cell's, and a list's test fails exactly where one of its elements does.
+use Prim.Native.Nat.{ℕ}
 use mathlib.Core.Path.{_≡_, refl, ap, sym, _∙_}
-use mathlib.Core.Logic.{_↔_, _⊎_, inl, inr}
+use mathlib.Core.Logic.{_↔_}
 use mathlib.Core.Bool.{Bool, true, false, cond, _&&_}
-use mathlib.Core.List.{List, [], _∷_, List·Memᴰ, List·Memᴰ·head, List·Memᴰ·tail, List·Memᴰ·cases-cons, List·Memᴰ·not-nil}
-use mathlib.Core.Option.{some, Option·some-injective}
+use mathlib.Core.List.{List, [], _∷_, List·Memᴰ}
 use lib.Dec.{eqb}
 use borrow.Author.Tests.{eqb-true, eqb-false, ne-eqb}
 use Rattle.lists.specs.Sets.{all}
 use Rattle.lists.specs.Members.{all-false, false-all}
 use Rattle.lists.specs.Tests.{clash}
-use Rattle.model.specs.Objects.{Shape}
 use Rattle.model.specs.Entries.{Read, Claim}
-use Rattle.model.specs.Table.{Holds, versionIn, lookup, cellsOf}
+use Rattle.model.specs.Table.{Holds, versionIn}
 use Rattle.model.specs.Play.{commitsOver}
 use Rattle.model.specs.Append.{claimGiven}
-use Rattle.model.specs.Run.{hasVersion, current, accept, madeAll}
+use Rattle.model.specs.Run.{Run, hasVersion, current, accept, madeAll}
 use Rattle.model.specs.Conditions.{Stale}
-use Rattle.model.specs.Claims.{RunAborts, ReplicaAborts}
+use Rattle.model.specs.Claims.{RunAborts}
 use Rattle.claims.proofs.Runs.{version-same}
 
 -- ---- stale reads, by any test that fails exactly for a read of another version
@@ -52,6 +51,14 @@ module _ (cells : Holds) where
   pub old-stale : (c : Claim) → current cells (c .reads) ≡ false → Stale cells c
   old-stale c e = fails-stale cells fresh fresh-exact c (sym (current-all (c .reads)) ∙ e)
 
+  -- reads of which none is stale
+  pub none-stale : (c : Claim) → (Stale cells c → ⊥) → current cells (c .reads) ≡ true
+  none-stale c h = by (current cells (c .reads)) refl
+    where
+      by : (b : Bool) → current cells (c .reads) ≡ b → b ≡ true
+      by true e = refl
+      by false e = absurd (h (old-stale c e))
+
   -- a read of current reads has its cell's version
   pub current-at : (c : Claim) (x : Read) → current cells (c .reads) ≡ true → List·Memᴰ x (c .reads) → versionIn (cells x.object x.key) ≡ x .version
   current-at c x h m = by (eqb (versionIn (cells x.object x.key)) x.version) refl
@@ -60,9 +67,13 @@ module _ (cells : Holds) where
       by true e = eqb-true _ _ e
       by false e = clash (current cells (c .reads)) h (stale-old c (x, m, eqb-false _ _ e))
 
-pub run-aborts : RunAborts
+pub run-aborts : (count n : ℕ) (items : List ℕ) (s : Run) → RunAborts count n items s
 unfolding accept
-run-aborts count n items s = (λ stale. rw (stale-old (s .cells) c stale), λ none-stale. by (current (s .cells) (c .reads)) refl none-stale)
+run-aborts count n items s = record {
+  exactly = (old-stale (s .cells) c, stale-old (s .cells) c);
+  aborts = λ stale. rw (stale-old (s .cells) c stale);
+  makes = λ none-stale. by (current (s .cells) (c .reads)) refl none-stale;
+}
   where
     c : Claim
     c = claimGiven items
@@ -71,18 +82,13 @@ run-aborts count n items s = (λ stale. rw (stale-old (s .cells) c stale), λ no
     by true q h = refl
     by false q h = absurd (h (old-stale (s .cells) c q))
 
--- ---- a replica
+-- ---- the player's test
 
-pub replica-aborts : (sh : Shape) → ReplicaAborts sh
-unfolding commitsOver
-replica-aborts sh l r c hosted =
-    rw hosted (λ e. fails-stale cells test exact c (Option·some-injective _ _ e), λ s. ap (λ (b : Bool). some b) (stale-fails cells test exact c s))
-  where
-    cells : Holds
-    cells = lookup (cellsOf (r .table) (r .replica .count))
+module _ (cells : Holds) where
+  pub stale-refuses : (c : Claim) → Stale cells c → commitsOver cells c ≡ false
+  unfolding commitsOver
+  stale-refuses c s = stale-fails cells (λ (x : Read). eqb (versionIn (cells x.object x.key)) x.version) (λ x. (eqb-false _ _, ne-eqb _ _)) c s
 
-    test : Read → Bool
-    test x = eqb (versionIn (cells x.object x.key)) x.version
-
-    exact : (x : Read) → (test x ≡ false) ↔ (versionIn (cells x.object x.key) ≡ x .version → ⊥)
-    exact x = (eqb-false _ _, ne-eqb _ _)
+  pub refuses-stale : (c : Claim) → commitsOver cells c ≡ false → Stale cells c
+  unfolding commitsOver
+  refuses-stale c e = fails-stale cells (λ (x : Read). eqb (versionIn (cells x.object x.key)) x.version) (λ x. (eqb-false _ _, ne-eqb _ _)) c e

@@ -92,7 +92,7 @@ distinct-store (c ∷ cs) o k h d = go (isOf o k c) refl (distinct-store cs o k 
 unfoldable pub owned : Shape → List ℕ → Cell → Bool
 owned sh set c = mem c.object set && isCell sh c.object c.key && fitsCell c
 
-all-store : (f : Cell → Bool) (cs : List Cell) (o k : ℕ) (h : Held) → all f cs ≡ true → f (cellOf o k h) ≡ true → all f (store cs o k h) ≡ true
+pub all-store : (f : Cell → Bool) (cs : List Cell) (o k : ℕ) (h : Held) → all f cs ≡ true → f (cellOf o k h) ≡ true → all f (store cs o k h) ≡ true
 unfolding store
 all-store f [] o k h a e = both e refl
 all-store f (c ∷ cs) o k h a e = go (isOf o k c) (all-store f cs o k h (and-r (f c) (all f cs) a) e)
@@ -145,16 +145,20 @@ module _ (sh : Shape) (shape : okShape sh ≡ true) (set : List ℕ) where
 
   module _ (v : ℕ) (small : v < 2 ^ 64) where
     -- a write makes a cell that fits
-    owned-write : (w : Write) → okWrite sh w ≡ true → mem w.object set ≡ true → owned sh set (cellOf w.object w.key (record { version = v; content = contentOf w })) ≡ true
-    unfolding owned okWrite
-    owned-write w ok m =
+    pub write-fitting : (w : Write) → okWrite sh w ≡ true → fitsCell (cellOf w.object w.key (record { version = v; content = contentOf w })) ≡ true
+    write-fitting w ok =
         let f : fitsWrite w ≡ true = write-fits sh shape w ok in
-        let a : isCell sh w.object w.key ≡ true = search ands in
         let b : fits 4 w.object ≡ true = search ands in
         let c : fits 4 w.key ≡ true = search ands in
         let d : fits 4 w.value ≡ true = search ands in
-        both (both m a)
-        (both (both (both (both b c) (value-fits (eqb w.operation 1) (w .value) d)) (present-fits (contentOf w))) (lt-ltb v (256 ^ 8) small))
+        both (both (both (both b c) (value-fits (eqb w.operation 1) (w .value) d)) (present-fits (contentOf w))) (lt-ltb v (256 ^ 8) small)
+
+    -- of a cell of the set
+    owned-write : (w : Write) → okWrite sh w ≡ true → mem w.object set ≡ true → owned sh set (cellOf w.object w.key (record { version = v; content = contentOf w })) ≡ true
+    unfolding owned okWrite
+    owned-write w ok m =
+        let a : isCell sh w.object w.key ≡ true = search ands in
+        both (both m a) (write-fitting w ok)
 
     one-write : (w : Write) (cs : List Cell) (cells : Holds) → okWrite sh w ≡ true → Shown sh set cs cells
         → Shown sh set (cond (mem w.object set) (store cs w.object w.key (record { version = v; content = contentOf w })) cs) (written v w cells)

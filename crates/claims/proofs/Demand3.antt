@@ -3,7 +3,7 @@
 use Prim.Native.Nat.{ℕ, _+_, _<_}
 use mathlib.Core.Path.{_≡_, refl, ap, sym, _∙_}
 use mathlib.Core.Bool.{Bool, true, false, not, _&&_}
-use mathlib.Core.List.{List, [], _∷_, List·Memᴰ}
+use mathlib.Core.List.{List, [], _∷_, _++_, List·Memᴰ}
 use mathlib.Core.Option.{Option, none, some}
 use native.Mathlib.Omega.{arith}
 use borrow.Author.Tests.{eqb-true, le-ltb}
@@ -15,19 +15,23 @@ use Rattle.model.specs.Entries.{Read, Held, Claim, Log}
 use Rattle.model.specs.Slot.{logIn}
 use Rattle.model.specs.Table.{cellsOf, capacity, lookup, versionIn}
 use Rattle.model.specs.Answers.{done, refuse, firstOf, answer}
-use Rattle.model.specs.Append.{badRecord}
+use Rattle.model.specs.Append.{Request, commits, claimGiven, badRecord}
 use Rattle.model.specs.Replica.{plainly, readCell}
 use Rattle.model.specs.Run.{current}
-use Rattle.model.specs.Histories.{isRefused, inLog, History, wholeLog, stood, ranTo, Passed, Carried, carried, Opening, fresh, atCheckpoint, opened, Play, played, plays, hosts, shown, cellsWritten}
-use Rattle.model.specs.Claims.{Fit, Shows, Demand3}
+use Rattle.model.specs.Histories.{Lent, Accepted, grown, empty, isRefused, inLog, History, wholeLog, stood, ranTo, Passed, Carried, carried, Opening, fresh, atCheckpoint, opened, Play, played, plays, hosts, shown, cellsWritten}
+use Rattle.model.specs.Conditions.{Fit, Playable}
+use Rattle.model.specs.Claims.{Shows, Demand3}
 use Rattle.laws.proofs.Tables.{length-cells}
+use Rattle.laws.proofs.Refusals.{good-below}
 use Rattle.claims.proofs.Cells.{how-many}
 use Rattle.claims.proofs.Runs.{run, same-version}
-use Rattle.claims.proofs.Aborts.{current-at}
+use Rattle.claims.proofs.Aborts.{current-at, none-stale}
 use Rattle.claims.proofs.Audits.{Sound, audit-passed}
 use Rattle.claims.proofs.Openings.{hosted-none}
-use Rattle.claims.proofs.Histories.{run-at, Stood, stood-so}
-use Rattle.claims.proofs.Replicas.{Good, fresh-good, open-good, play-good, play-waiting, play-lacking}
+use Rattle.claims.proofs.Histories.{grown-append, accepted-below, run-at, Stood, stood-so}
+use Rattle.claims.proofs.Replicas.{Good, fresh-good, open-good, play-good, play-lacking}
+use Rattle.claims.proofs.Conditions.{frame-words}
+use Rattle.claims.proofs.Leaves.{words-replica, words-stop, play-leaves, refit, answered}
 
 -- ---- cell reading
 
@@ -84,12 +88,22 @@ module _ (sh : Shape) (shape : okShape sh ≡ true) (h : History) (room : ℕ) (
     unfolding logIn
     position = run-at sh shape h (r .replica .position) (g .below)
 
-    lacking : (p : Play) → Fit sh h r p → played sh h r p .answer ≡ plainly 13
+    -- on the log as it stood, a play whose record and stop are fit is refused by nothing
+    fit-playable : (p : Play) → Fit (stood sh h (p .stoodAfter) .tail) r (p .stop) → Playable sh (stood sh h (p .stoodAfter)) r (p .stop)
+    fit-playable p f = record {
+      framed = frame-words (stood sh h (p .stoodAfter)) (was (p .stoodAfter) .frame);
+      good = good-below sh (at sh h p) (was (p .stoodAfter) .good);
+      fit = f;
+    }
+
+    lacking : (p : Play) → played sh h r p .answer ≡ plainly 13
         → capacity (r .table) < cellsWritten (sh .objects) (hosts sh r) (ranTo sh h (played sh h r p .replica .position + 1) .cells)
     unfolding logIn
-    lacking p f e =
-        let l = play-lacking sh shape (whole sh h) (at sh h p) (was (p .stoodAfter)) r (p .stop) g f e in
-        rw (run-at sh shape h (played sh h r p .replica .position + 1) (l .next)) (l .many)
+    lacking p e =
+        let l : Lent = stood sh h (p .stoodAfter) in
+        let f : Fit (l .tail) r (p .stop) = answered sh l r (p .stop) 13 (omega arith) e .fit in
+        let k = play-lacking sh shape (whole sh h) (at sh h p) (was (p .stoodAfter)) r (p .stop) g (words-replica (l .tail) r (p .stop) f, words-stop (l .tail) r (p .stop) f) e in
+        rw (run-at sh shape h (played sh h r p .replica .position + 1) (k .next)) (k .many)
 
     reread : (p : ℕ) (c : Claim) (x : Read) (held : Option Held) → p < wholeLog sh h .tail → current (ranTo sh h p .cells) (c .reads) ≡ true
         → List·Memᴰ x (c .reads) → shown sh r x.object x.key ≡ done held → versionIn held ≡ x .version → ranTo sh h p .cells x.object x.key ≡ held
@@ -99,15 +113,27 @@ module _ (sh : Shape) (shape : okShape sh ≡ true) (h : History) (room : ℕ) (
         let w : versionIn (run (whole sh h) p .cells x.object x.key) ≡ x .version = current-at (run (whole sh h) p .cells) c x (rw then at cur) m in
         rw then (same-version (whole sh h) p (r .replica .position) (x .object) (x .key) (w ∙ sym v ∙ ap versionIn (sym now)) ∙ now)
 
+    -- an accepted commit of the history lies below the tail
+    turn-below : (before later : List Request) (q : Request) → h .requests ≡ before ++ q ∷ later → Accepted sh (grown sh (empty (h .bytes)) before) q
+        → grown sh (empty (h .bytes)) before .tail < wholeLog sh h .tail
+    unfolding grown
+    turn-below before later q e taken =
+        rw (ap (grown sh (empty (h .bytes))) e ∙ grown-append sh (empty (h .bytes)) before (q ∷ later))
+        (accepted-below sh shape (grown sh (empty (h .bytes)) before) q later taken)
+
     shows : Shows sh h r
     unfolding logIn
     shows = record {
       cells = λ o k m c. read-done sh (whole sh h) r g o k m c ∙ ap (λ s. done (s .cells o k)) (sym position);
       count = sym (length-cells (r .table) (r .replica .count)) ∙ how-many sh shape (hosts sh r) (cellsOf (r .table) (r .replica .count)) (run (whole sh h) (r .replica .position) .cells) (g .inv)
           ∙ ap (λ s. cellsWritten (sh .objects) (hosts sh r) (s .cells)) (sym position);
-      waits = λ p f. play-waiting sh shape (whole sh h) (at sh h p) (was (p .stoodAfter)) r (p .stop) g f;
+      waits = λ p. refit _ _ (at sh h p) (hosts sh r) (r .replica .position) (p .stop) (played sh h r p) (λ f. f .fit) (fit-playable p)
+          (play-leaves sh (stood sh h (p .stoodAfter)) r (p .stop) .waits);
+      ends = λ p. let w = play-leaves sh (stood sh h (p .stoodAfter)) r (p .stop) .ends in ((λ x. w .0 x .fit), (λ f. w .1 (fit-playable p f)));
       lacks = lacking;
-      rereads = λ p n c x held l i cur m e v. reread p c x held l cur m e v;
+      rereads = λ before later n items e taken fresh x held m i v.
+          let l : Lent = grown sh (empty (h .bytes)) before in
+          reread (l .tail) (claimGiven items) x held (turn-below before later (commits n items) e taken) (none-stale (ranTo sh h (l .tail) .cells) (claimGiven items) fresh) m i v;
     }
 
 -- what holds of a replica after its plays

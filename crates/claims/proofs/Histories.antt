@@ -3,14 +3,14 @@
 use Prim.Native.Nat.{ℕ, zero, suc, _+_, _%_, _<_, _≤_}
 use mathlib.Core.Path.{_≡_, refl, ap, sym, _∙_, subst}
 use mathlib.Core.Bool.{Bool, true, false, cond, not, _||_}
-use mathlib.Core.List.{List, [], _∷_}
+use mathlib.Core.List.{List, [], _∷_, _++_}
 use mathlib.Core.Option.{none}
 use native.Mathlib.Omega.{arith}
 use native.Mathlib.Numerals.{add-one}
 use borrow.Author.Tests.{eqb-true, eqb-false, ltb-true, ltb-false, le-ltb}
 use lib.Dec.{eqb, ltb}
 use lib.ListN.{length, take}
-use Rattle.lists.specs.Tests.{ands, or-l, or-r, neither}
+use Rattle.lists.specs.Tests.{ands, or-l, or-r, neither, clash}
 use Rattle.model.specs.Objects.{Shape, okShape}
 use Rattle.model.specs.Entries.{decision, Log}
 use Rattle.model.specs.Slot.{logIn}
@@ -18,7 +18,7 @@ use Rattle.model.specs.Rules.{okEntry, lowestBad}
 use Rattle.model.specs.Answers.{Answer, done, refused, slots, badFrame}
 use Rattle.model.specs.Append.{Request, entryOf}
 use Rattle.model.specs.Run.{Fed, start, accept, runAt}
-use Rattle.model.specs.Histories.{Lent, inLog, tailAfter, isRefused, appendTo, after, grown, feed, empty, History, wholeLog, stood, ranTo}
+use Rattle.model.specs.Histories.{Accepted, Lent, inLog, tailAfter, isRefused, appendTo, after, grown, feed, empty, History, wholeLog, stood, ranTo}
 use Rattle.laws.proofs.Agree.{Agree, fewer}
 use Rattle.laws.proofs.Appends.{accepted, refused-same, good-kept}
 use Rattle.claims.proofs.Runs.{run, run-start, count-run, run-agree, run-next}
@@ -55,6 +55,11 @@ even-longer sh l m n a b = record {
   agrees = λ o h. b .agrees o (omega (arith, a .tails)) ∙ a .agrees o h;
 }
 
+pub grown-append : (sh : Shape) (l : Lent) (xs ys : List Request) → grown sh l (xs ++ ys) ≡ grown sh (grown sh l xs) ys
+unfolding grown
+grown-append sh l [] ys = refl
+grown-append sh l (x ∷ xs) ys = grown-append sh (after sh l x) xs ys
+
 module _ (sh : Shape) (shape : okShape sh ≡ true) where
   turn : (l : Lent) (q : Request) → Turn sh l q
   turn l q = go (appendTo sh l q .newTail) refl
@@ -86,6 +91,14 @@ module _ (sh : Shape) (shape : okShape sh ≡ true) where
   first-longer l zero qs = grown-longer l qs
   first-longer l (suc n) [] = not-longer sh l
   first-longer l (suc n) (q ∷ qs) = first-longer (after sh l q) n qs
+
+  -- an accepted append lies below the tail of what later appends leave
+  pub accepted-below : (l : Lent) (q : Request) (qs : List Request) → Accepted sh l q → l .tail < grown sh (after sh l q) qs .tail
+  accepted-below l q qs taken = go (turn l q)
+    where
+      go : Turn sh l q → l .tail < grown sh (after sh l q) qs .tail
+      go (kept e s) = clash (isRefused (appendTo sh l q .newTail)) e taken
+      go (grew g) = omega (arith, g .longer, grown-longer (after sh l q) qs .tails)
 
   -- ---- the run that is fed
 

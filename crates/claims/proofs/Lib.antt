@@ -12,12 +12,15 @@ pub mod Counts
 pub mod Cells
 pub mod Runs
 pub mod Steps
+pub mod Reached
 pub mod Waits
+pub mod Leaves
 pub mod Audits
 pub mod Openings
 pub mod Histories
 pub mod Replicas
 pub mod Demand3
+pub mod Across
 pub mod Outcomes
 pub mod Demand2
 pub mod Depots

@@ -1,34 +1,35 @@
--- A replica reaches the run's outcome of the commit record at its position, or has none and waits: its cells are shown as the run
--- has them there, and decision records are true. Plays keep the hosted set, and a commit record lies below its log's tail.
-use Prim.Native.Nat.{ℕ, _<_}
-use mathlib.Core.Path.{_≡_, refl, ap, sym, _∙_}
-use mathlib.Core.Bool.{Bool, true, false}
-use mathlib.Core.List.{List, [], _∷_}
+-- A replica played across the commit record at its position reaches the run's outcome, or waits: by demand 3 its cells are the run's
+-- before and after, and the run's cells after the record are those before it exactly where a read is stale.
+use Prim.Native.Nat.{ℕ, suc, _+_, _<_}
+use mathlib.Core.Path.{_≡_, refl, ap, sym, _∙_, subst}
+use mathlib.Core.Logic.{_↔_}
+use mathlib.Core.Bool.{Bool, true, false, cond}
+use mathlib.Core.List.{List, [], _∷_, _++_}
 use mathlib.Core.Option.{Option, none, some}
 use native.Mathlib.Omega.{arith}
+use native.Mathlib.Numerals.{add-one}
 use borrow.Author.Tests.{ltb-true, ltb-false}
 use lib.Dec.{ltb}
 use Rattle.lists.specs.Tests.{clash}
+use Rattle.lists.specs.Sets.{mem}
 use Rattle.lists.specs.Rows.{getD-values-past}
-use Rattle.model.specs.Objects.{Shape, okShape, hosted}
-use Rattle.model.specs.Entries.{Claim, commit, blank, effect, Log}
+use Rattle.model.specs.Objects.{Shape, okShape, isCell, hosted}
+use Rattle.model.specs.Entries.{Claim, Entry, commit, blank, effect, Log}
 use Rattle.model.specs.Slot.{logIn}
-use Rattle.model.specs.Table.{cellsOf, capacity}
+use Rattle.model.specs.Table.{Holds, capacity}
 use Rattle.model.specs.Play.{Played, going, waits, lacks}
-use Rattle.model.specs.Answers.{Refusal}
+use Rattle.model.specs.Answers.{Refusal, done}
 use Rattle.model.specs.Append.{Replica}
-use Rattle.model.specs.Replica.{playRefusal, leftBy, playGiven, playFrom, playCall}
-use Rattle.model.specs.Run.{current}
-use Rattle.model.specs.Histories.{Lent, inLog, History, wholeLog, stood, Carried, carried, Play, played, plays, hosts}
-use Rattle.model.specs.Claims.{SameOutcomes}
-use Rattle.laws.proofs.Agree.{fewer}
-use Rattle.claims.proofs.Cells.{Shown}
-use Rattle.claims.proofs.Runs.{run, run-agree}
-use Rattle.claims.proofs.Steps.{trust, outcome-true}
+use Rattle.model.specs.Replica.{Left, plainly, playRefusal, leftBy, playGiven, playFrom, playCall, readCell}
+use Rattle.model.specs.Run.{Run, current, madeAll}
+use Rattle.model.specs.Histories.{Lent, inLog, isRefused, History, wholeLog, stood, ranTo, Carried, carried, Play, played, plays, hosts, cellsWritten}
+use Rattle.model.specs.Conditions.{Stale, Concerns, Blocked, Fit, Ended, there, waiting, noRoom}
+use Rattle.model.specs.Claims.{Waiting, Shows, SameOutcome, SameOutcomes}
+use Rattle.claims.proofs.Runs.{cellsAfter, run, cells-run}
+use Rattle.claims.proofs.Aborts.{stale-old, none-stale}
 use Rattle.claims.proofs.Audits.{audit-passed}
 use Rattle.claims.proofs.Histories.{run-at, Stood, stood-so}
-use Rattle.claims.proofs.Replicas.{Good}
-use Rattle.claims.proofs.Demand3.{replica-good}
+use Rattle.claims.proofs.Demand3.{demand3}
 
 -- ---- plays keep the hosted set
 
@@ -61,20 +62,115 @@ commit-below l p m c e = go (ltb p (l .tail)) refl
     go true i = ltb-true p (l .tail) i
     go false i = let past : inLog l .entry p ≡ blank = getD-values-past _ 0 (l .tail) p blank (ltb-false p (l .tail) i) in clash true refl cc
 
+-- ---- one play more
+
+plays-more : (sh : Shape) (h : History) (r : Carried) (ps : List Play) (p : Play) → plays sh h r (ps ++ (p ∷ [])) ≡ carried (played sh h (plays sh h r ps) p)
+unfolding plays
+plays-more sh h r [] p = refl
+plays-more sh h r (q ∷ ps) p = plays-more sh h (carried (played sh h r q)) ps p
+
+-- ---- the run at a commit record
+
+module _ (sh : Shape) (shape : okShape sh ≡ true) (h : History) (p n : ℕ) (c : Claim)
+    (low : p < wholeLog sh h .tail) (here : inLog (wholeLog sh h) .entry p ≡ commit n c) where
+  ran-next : ranTo sh h (p + 1) .cells ≡ cond (current (ranTo sh h p .cells) (c .reads)) (madeAll (p + 1) (ranTo sh h p .aside n) (ranTo sh h p .cells)) (ranTo sh h p .cells)
+  ran-next =
+      let whole : Log = inLog (wholeLog sh h) in
+      let s : p + 1 ≡ suc p = add-one p in
+      let then : ranTo sh h p ≡ run whole p = run-at sh shape h p (omega arith) in
+      ap (λ (x : Run). x .cells) (run-at sh shape h (p + 1) (omega arith)) ∙ ap (λ (m : ℕ). run whole m .cells) s
+      ∙ cells-run whole p ∙ ap (λ (e : Entry). cellsAfter (p + 1) (run whole p) (effect e)) here
+      ∙ ap (λ (x : Run). cond (current (x .cells) (c .reads)) (madeAll (p + 1) (x .aside n) (x .cells)) (x .cells)) (sym then)
+
+  pub ran-aborts : Stale (ranTo sh h p .cells) c → ranTo sh h (p + 1) .cells ≡ ranTo sh h p .cells
+  ran-aborts s = ran-next ∙ ap (λ (b : Bool). cond b (madeAll (p + 1) (ranTo sh h p .aside n) (ranTo sh h p .cells)) (ranTo sh h p .cells)) (stale-old (ranTo sh h p .cells) c s)
+
+  pub ran-makes : (Stale (ranTo sh h p .cells) c → ⊥) → ranTo sh h (p + 1) .cells ≡ madeAll (p + 1) (ranTo sh h p .aside n) (ranTo sh h p .cells)
+  ran-makes f = ran-next ∙ ap (λ (b : Bool). cond b (madeAll (p + 1) (ranTo sh h p .aside n) (ranTo sh h p .cells)) (ranTo sh h p .cells)) (none-stale (ranTo sh h p .cells) c f)
+
 -- ---- the outcomes
+
+module _ (sh : Shape) (h : History) (x : Carried) (m n : ℕ) (c : Claim) (shows : Shows sh h x)
+    (fit : Fit (stood sh h m .tail) x (x .replica .position + 1)) (concerns : Concerns (inLog (stood sh h m)) (hosts sh x) n (x .replica .position)) where
+  abbrev p : ℕ
+  p = x .replica .position
+
+  abbrev turn : Play
+  turn = record { stoodAfter = m; stop = p + 1 }
+
+  abbrev out : Left
+  out = played sh h x turn
+
+  ended : Ended (p + 1) out
+  ended = shows .ends turn .1 fit
+
+  -- where it did not arrive it stands at p
+  short : out .replica .position < p + 1 → out .replica .position ≡ p
+  short l = omega (arith, l, shows .waits turn .notBack fit)
+
+  arrived : out .answer ≡ done tt → out .replica .position ≡ p + 1
+  arrived e = go ended
+    where
+      go : Ended (p + 1) out → out .replica .position ≡ p + 1
+      go (there d i) = i
+      go (waiting d i) = clash true refl (ap isRefused (sym d ∙ e))
+      go (noRoom d i) = clash true refl (ap isRefused (sym d ∙ e))
+
+  waits-there : (out .answer ≡ plainly 12) ↔ Blocked (inLog (stood sh h m)) (hosts sh x) p
+  waits-there = (forth, back ended)
+    where
+      w : Waiting (Fit (stood sh h m .tail) x (p + 1)) (inLog (stood sh h m)) (hosts sh x) p (p + 1) out
+      w = shows .waits turn
+
+      forth : out .answer ≡ plainly 12 → Blocked (inLog (stood sh h m)) (hosts sh x) p
+      forth e = let k = w .exactly .0 e in subst (Blocked (inLog (stood sh h m)) (hosts sh x)) (short (k .1)) (k .2)
+
+      back : Ended (p + 1) out → Blocked (inLog (stood sh h m)) (hosts sh x) p → out .answer ≡ plainly 12
+      back (there d i) b = absurd (w .passes fit p (omega arith) (omega (arith, i)) b)
+      back (waiting d i) b = d
+      back (noRoom d i) b = w .exactly .1 (fit, i, subst (Blocked (inLog (stood sh h m)) (hosts sh x)) (sym (short i)) b)
+
+  module _ (shape : okShape sh ≡ true) (low : p < wholeLog sh h .tail) (here : inLog (wholeLog sh h) .entry p ≡ commit n c) (next : Shows sh h (carried out)) where
+    hosts-same : hosts sh (carried out) ≡ hosts sh x
+    hosts-same = ap (hosted sh) (play-hosting sh (inLog (stood sh h m)) (x .replica) (x .table) (p + 1))
+
+    reads-next : out .answer ≡ done tt → (o k : ℕ) → mem o (hosts sh x) ≡ true → isCell sh o k ≡ true → readCell sh (out .replica) (out .table) o k ≡ done (ranTo sh h (p + 1) .cells o k)
+    reads-next e o k i j =
+        next .cells o k (ap (mem o) hosts-same ∙ i) j ∙ ap (λ (q : ℕ). done (ranTo sh h q .cells o k)) (arrived e)
+
+    never-lacks : out .answer ≡ plainly 13 → Stale (ranTo sh h p .cells) c → ⊥
+    never-lacks e s =
+        let at : out .replica .position ≡ p = go ended in
+        let many = shows .lacks turn e in
+        let same : cellsWritten (sh .objects) (hosts sh x) (ranTo sh h (out .replica .position + 1) .cells) ≡ x .replica .count =
+        ap (λ (q : ℕ). cellsWritten (sh .objects) (hosts sh x) (ranTo sh h (q + 1) .cells)) at
+        ∙ ap (cellsWritten (sh .objects) (hosts sh x)) (ran-aborts sh shape h p n c low here s) ∙ sym (shows .count) in
+        omega (arith, many, same, fit .counted)
+      where
+        go : Ended (p + 1) out → out .replica .position ≡ p
+        go (there d i) = clash true refl (ap isRefused (sym e ∙ d))
+        go (waiting d i) = short i
+        go (noRoom d i) = short i
+
+    same-outcome : SameOutcome sh h (stood sh h m) x n c out
+    same-outcome = record {
+      ends = ended;
+      aborts = λ d s o k i j. reads-next d o k i j ∙ ap (λ (cells : Holds). done (cells o k)) (ran-aborts sh shape h p n c low here s) ∙ sym (shows .cells o k i j);
+      makes = λ d f o k i j. reads-next d o k i j ∙ ap (λ (cells : Holds). done (cells o k)) (ran-makes sh shape h p n c low here f);
+      waits = waits-there;
+      lacks = never-lacks;
+    }
 
 pub same-outcomes : (sh : Shape) → okShape sh ≡ true → SameOutcomes sh
 unfolding logIn
-same-outcomes sh shape h scratch passed o r opens ps n m c b e meeting out =
+same-outcomes sh shape h scratch passed o r opens ps m n c x e here fit concerns =
     let whole : Log = inLog (wholeLog sh h) in
-    let log : Log = inLog (stood sh h n) in
-    let x : Carried = plays sh h r ps in
-    let p : ℕ = x .replica .position in
-    let good : Good sh whole x = replica-good sh shape h scratch passed o r opens ps in
-    let was : Stood sh whole log = stood-so sh shape h (capacity scratch) n (audit-passed sh whole scratch passed) in
-    let low : p < log .tail = commit-below (stood sh h n) p m c e in
-    let same : run log p ≡ run whole p = run-agree log whole p (fewer log whole (log .tail) p (omega arith) (was .agrees)) in
-    let inv : Shown sh (hosts sh r) (cellsOf (x .table) (x .replica .count)) (run log p .cells) =
-    rw (same, ← ap (hosted sh) (plays-hosting sh h r ps)) (good .inv) in
-    outcome-true sh log (hosts sh r) p (cellsOf (x .table) (x .replica .count)) m c b (trust log (hosts sh r) p (was .truths)) inv (ap effect e) out
-    ∙ ap (λ s. current (s .cells) (c .reads)) (same ∙ sym (run-at sh shape h p (good .below)))
+    let log : Log = inLog (stood sh h m) in
+    let at : ℕ = x .replica .position in
+    let shows : Shows sh h x = subst (Shows sh h) (sym e) (demand3 sh shape h scratch passed o r opens ps) in
+    let one : Play = record { stoodAfter = m; stop = at + 1 } in
+    let next : Shows sh h (carried (played sh h x one)) =
+    subst (Shows sh h) (plays-more sh h r ps one ∙ ap (λ (y : Carried). carried (played sh h y one)) (sym e)) (demand3 sh shape h scratch passed o r opens (ps ++ (one ∷ []))) in
+    let was : Stood sh whole log = stood-so sh shape h (capacity scratch) m (audit-passed sh whole scratch passed) in
+    let low : at < log .tail = commit-below (stood sh h m) at n c here in
+    same-outcome sh h x m n c shows fit concerns shape (omega (arith, low, was .tails)) (sym (was .agrees at low) ∙ here) next

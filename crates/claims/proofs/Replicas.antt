@@ -21,7 +21,6 @@ use Rattle.model.specs.Answers.{Refusal, done, refuse, answer, firstOf, frameAn
 use Rattle.model.specs.Append.{badRecord, badReplica}
 use Rattle.model.specs.Replica.{Left, plainly, leftWith, openFresh, Checkpoint, checkpointIn, openRefusal, openGiven, openAt, badStop, playRefusal, leftBy, playGiven, playFrom, playCall}
 use Rattle.model.specs.Histories.{isRefused, Carried, carried, ifOpened, ifFresh, hosts, cellsWritten}
-use Rattle.model.specs.Claims.{Waiting}
 use Rattle.model.specs.Worked.{code}
 use Rattle.laws.proofs.Refusals.{not-none, all-pass, refuse-none}
 use Rattle.laws.proofs.Agree.{fewer}
@@ -31,7 +30,6 @@ use Rattle.laws.proofs.Appends.{good-kept}
 use Rattle.claims.proofs.Cells.{Shown, shown-fits}
 use Rattle.claims.proofs.Runs.{run, run-agree}
 use Rattle.claims.proofs.Steps.{start-shown, trust, Ok, play-ok}
-use Rattle.claims.proofs.Waits.{play-waits}
 use Rattle.claims.proofs.Audits.{Sound, tail-small, placed}
 use Rattle.claims.proofs.Openings.{hosted-one, loaded, checkpoint-shows, checkpoint-object}
 use Rattle.claims.proofs.Histories.{Stood}
@@ -101,7 +99,7 @@ module _ (sh : Shape) (shape : okShape sh ≡ true) (whole : Log) (room : ℕ) (
 -- ---- a play
 
 -- a play on the log as it stood that is not refused for its arguments
-abbrev Fits : Log → Carried → ℕ → Type 0
+abbrev pub Fits : Log → Carried → ℕ → Type 0
 Fits log r stop = (badReplica (log .tail) (r .replica) (r .table) ≡ false) × (badStop (log .tail) (r .replica) stop ≡ false)
 
 -- what a play that lacks room leaves
@@ -163,10 +161,6 @@ module _ (sh : Shape) (shape : okShape sh ≡ true) (whole log : Log) (was : Sto
   not-refused : Fits log r stop → playCall sh log (r .replica) (r .table) stop ≡ leftBy (r .replica .hosting) stop (r .table) (playFrom sh log (r .replica) (r .table) stop)
   unfolding playCall
   not-refused f = rw (was .frame, was .good, f .0, f .1)
-
-  pub play-waiting : Fits log r stop → Waiting log (hosts sh r) (r .replica .position) stop (playCall sh log (r .replica) (r .table) stop)
-  play-waiting f =
-      rw (not-refused f) (play-waits log (hosts sh r) (capacity (r .table)) (r .replica .hosting) (r .replica .position) stop (r .table) (cellsOf (r .table) (r .replica .count)) (on f))
 
   pub play-lacking : Fits log r stop → playCall sh log (r .replica) (r .table) stop .answer ≡ plainly 13 → Lacking sh whole r (playCall sh log (r .replica) (r .table) stop)
   play-lacking f e = rw (not-refused f) (go (playFrom sh log (r .replica) (r .table) stop) (played-ok f) (rw (not-refused f) at e))

@@ -1,24 +1,27 @@
 -- Where a play waits: a step waits exactly where its entry is blocked, so a play stops at the first blocked entry, or before it
 -- for lack of room. By cases of the entry, then by induction over the entries played.
 use Prim.Native.Nat.{ℕ, zero, suc, _+_, _-_, _<_, _≤_}
-use mathlib.Core.Path.{_≡_, refl, ap, sym}
+use mathlib.Core.Path.{_≡_, refl, ap, sym, _∙_}
 use mathlib.Core.Bool.{Bool, true, false, cond, not, _&&_}
-use mathlib.Core.List.{List}
+use mathlib.Core.List.{List, [], _∷_}
 use mathlib.Core.Option.{Option, none, some}
 use native.Mathlib.Omega.{arith}
 use native.Mathlib.Nat.{add-suc}
-use borrow.Author.Tests.{eqb-true, eqb-false}
+use borrow.Author.Tests.{eqb-true, eqb-false, not-true}
 use lib.Dec.{eqb, leb}
 use lib.ListN.{length}
-use Rattle.lists.specs.Tests.{clash}
-use Rattle.lists.specs.Sets.{meets}
-use Rattle.model.specs.Entries.{Write, Commit, Entry, plain, numbered, commit, decision, checkpoint, blank, effect, Log, writesOf, commitIn, commitObjects, ifSome, isNone, decided, headerObjects}
+use Rattle.lists.specs.Tests.{ands, both, clash}
+use Rattle.lists.specs.Sets.{all, mem, meets}
+use Rattle.lists.specs.Members.{all-false, false-all}
+use Rattle.model.specs.Entries.{Write, Read, Commit, Entry, plain, numbered, commit, decision, checkpoint, blank, effect, Log, writesOf, commitIn, commitObjects, ifSome, isNone, decided, headerObjects}
 use Rattle.model.specs.Table.{Cell, lookup, apply}
 use Rattle.model.specs.Play.{Played, going, waits, lacks, commitsOver, alone, saysCommit, make, finish, act, step, andThen, play}
 use Rattle.model.specs.Replica.{plainly, leftBy}
 use Rattle.model.specs.Histories.{isRefused}
-use Rattle.model.specs.Claims.{blocked, Waiting}
+use Rattle.model.specs.Conditions.{Blocked, Ended, there, waiting, noRoom}
+use Rattle.model.specs.Claims.{Waiting}
 use Rattle.model.specs.Worked.{code}
+use Rattle.claims.proofs.Conditions.{concerns-words, words-concerns, undecided-words, words-undecided}
 
 -- what a step at p says of whether the entry there is blocked
 abbrev StepWait : ℕ → Bool → Played → Type 0
@@ -53,6 +56,13 @@ abbrev blockedBy : Log → List ℕ → ℕ → Option Commit → Bool
 blockedBy log set p x = ifSome x false (λ c. meets set (commitObjects log p (c .number)) && not (alone set (c .claim)) && isNone (decided log p (log .tail)))
 
 module _ (log : Log) (set : List ℕ) (room : ℕ) where
+  abbrev blocked : ℕ → Bool
+  blocked q = blockedBy log set q (commitIn (effect (log .entry q)))
+
+  reads-hosted : (xs : List Read) → alone set (record { reads = xs }) ≡ all (λ (x : Read). mem x.object set) xs
+  reads-hosted [] = refl
+  reads-hosted (x ∷ xs) = ap (λ (b : Bool). mem x.object set && b) (reads-hosted xs)
+
   entry-wait : (p : ℕ) (cs : List Cell) (e : Entry)
       → StepWait p (blockedBy log set p (commitIn (effect e))) (cond (meets set (headerObjects log p e)) (act log set room p cs (effect e)) (going cs))
   unfolding headerObjects
@@ -70,20 +80,20 @@ module _ (log : Log) (set : List ℕ) (room : ℕ) where
 
   -- no record from p up to q is blocked
   abbrev Clear : ℕ → ℕ → Type 0
-  Clear p q = (p ≤ q) × ((x : ℕ) → p ≤ x → x < q → blocked log set x ≡ false)
+  Clear p q = (p ≤ q) × ((x : ℕ) → p ≤ x → x < q → blocked x ≡ false)
 
   abbrev PlayWait : ℕ → ℕ → Played → Type 0
   PlayWait p n (going cs) = Clear p (p + n)
-  PlayWait p n (waits q cs) = (q < p + n) × (blocked log set q ≡ true) × Clear p q
-  PlayWait p n (lacks q cs) = (q < p + n) × (blocked log set q ≡ false) × Clear p q
+  PlayWait p n (waits q cs) = (q < p + n) × (blocked q ≡ true) × Clear p q
+  PlayWait p n (lacks q cs) = (q < p + n) × (blocked q ≡ false) × Clear p q
 
-  one-more : (p q : ℕ) → Clear p q → blocked log set q ≡ false → Clear p (suc q)
+  one-more : (p q : ℕ) → Clear p q → blocked q ≡ false → Clear p (suc q)
   one-more p q c b = (omega (arith, c .0), λ x l h. go x l h (eqb x q) refl)
     where
       less : (x : ℕ) → x < suc q → (x ≡ q → ⊥) → x < q
       less x h d = omega arith
 
-      go : (x : ℕ) → p ≤ x → x < suc q → (e : Bool) → eqb x q ≡ e → blocked log set x ≡ false
+      go : (x : ℕ) → p ≤ x → x < suc q → (e : Bool) → eqb x q ≡ e → blocked x ≡ false
       go x l h true e = rw (eqb-true x q e) b
       go x l h false e = c .1 x l (less x h (eqb-false x q e))
 
@@ -92,7 +102,7 @@ module _ (log : Log) (set : List ℕ) (room : ℕ) where
   play-wait p cs zero = (omega arith, λ x l h. absurd (omega arith))
   play-wait p cs (suc n) = go (play log set room p cs n) (play-wait p cs n)
     where
-      took : (x : Played) → StepWait (p + n) (blocked log set (p + n)) x → Clear p (p + n) → PlayWait p (suc n) x
+      took : (x : Played) → StepWait (p + n) (blocked (p + n)) x → Clear p (p + n) → PlayWait p (suc n) x
       took (going u) w c = rw add-suc (one-more p (p + n) c w)
       took (waits q u) w c = (omega (arith, w .0), rw (w .0) (w .1), rw (w .0) c)
       took (lacks q u) w c = (omega (arith, w .0), rw (w .0) (w .1), rw (w .0) c)
@@ -102,33 +112,68 @@ module _ (log : Log) (set : List ℕ) (room : ℕ) where
       go (waits q u) c = (omega (arith, c .0), c .1, c .2)
       go (lacks q u) c = (omega (arith, c .0), c .1, c .2)
 
-  -- what a play to a stop leaves is as demanded
-  pub play-waits : (hosting p stop : ℕ) (table : List ℕ) (cs : List Cell) → p ≤ stop
-      → Waiting log set p stop (leftBy hosting stop table (play log set room p cs (stop - p)))
-  play-waits hosting p stop table cs l = go (play log set room p cs (stop - p)) (play-wait p cs (stop - p))
+  -- ---- in words
+
+  blocked-words : (q : ℕ) → blocked q ≡ true → Blocked log set q
+  blocked-words q h = go (log .entry q) refl h
     where
-      go : (x : Played) → PlayWait p (stop - p) x → Waiting log set p stop (leftBy hosting stop table x)
+      go : (e : Entry) → log .entry q ≡ e → blockedBy log set q (commitIn (effect e)) ≡ true → Blocked log set q
+      go (commit n c) i k =
+          let far : not (alone set c) ≡ true = search ands in
+          let (x, m, o) = all-false (λ (x : Read). mem x.object set) (c .reads) (sym (reads-hosted (c .reads)) ∙ not-true (alone set c) far) in
+          record {
+            number = n;
+            claim = c;
+            here = i;
+            concerns = concerns-words log set n q (search ands);
+            outside = (x, m, o);
+            undecided = undecided-words log q (log .tail) (search ands);
+          }
+      go (plain ws) i k = clash false k refl
+      go (numbered n ws) i k = clash false k refl
+      go (decision o v) i k = clash false k refl
+      go (checkpoint o cs) i k = clash false k refl
+      go blank i k = clash false k refl
+
+  words-blocked : (q : ℕ) → Blocked log set q → blocked q ≡ true
+  words-blocked q b =
+      let (x, m, o) = b .outside in
+      let far : alone set (b .claim) ≡ false = reads-hosted (b .claim .reads) ∙ false-all (λ (x : Read). mem x.object set) x (b .claim .reads) m o in
+      rw (b .here) (both (both (words-concerns log set (b .number) q (b .concerns)) (ap not far)) (words-undecided log q (log .tail) (b .undecided)))
+
+  -- what a play to a stop leaves is as demanded
+  pub play-waits : (fit : Type 0) → fit → (hosting p stop : ℕ) (table : List ℕ) (cs : List Cell) → p ≤ stop
+      → Waiting fit log set p stop (leftBy hosting stop table (play log set room p cs (stop - p)))
+  play-waits fit f hosting p stop table cs l = go (play log set room p cs (stop - p)) (play-wait p cs (stop - p))
+    where
+      clear : (q : ℕ) → blocked q ≡ false → Blocked log set q → ⊥
+      clear q e b = clash (blocked q) (words-blocked q b) e
+
+      go : (x : Played) → PlayWait p (stop - p) x → Waiting fit log set p stop (leftBy hosting stop table x)
       go (going u) w = record {
-        exactly = ((λ e. clash true refl (ap isRefused (sym e))), (λ h. absurd (omega (arith, h .0))));
-        passes = λ q a b. w .1 q a (omega arith);
-        notBack = l;
-        notPast = omega arith;
-        there = λ e. refl;
+        exactly = ((λ e. clash true refl (ap isRefused (sym e))), (λ h. absurd (omega (arith, h .1))));
+        passes = λ f q a b k. clear q (w .1 q a (omega arith)) k;
+        notBack = λ f. l;
       }
       go (waits q u) w = record {
-        exactly = ((λ e. (omega (arith, w .0), w .1)), (λ h. refl));
-        passes = w .2 .1;
-        notBack = w .2 .0;
-        notPast = omega (arith, w .0);
-        there = λ e. clash true refl (ap isRefused e);
+        exactly = ((λ e. (f, omega (arith, w .0), blocked-words q (w .1))), (λ h. refl));
+        passes = λ f x a b k. clear x (w .2 .1 x a b) k;
+        notBack = λ f. w .2 .0;
       }
       go (lacks q u) w = record {
-        exactly = ((λ e. thirteen e), (λ h. clash (blocked log set q) (h .1) (w .1)));
-        passes = w .2 .1;
-        notBack = w .2 .0;
-        notPast = omega (arith, w .0);
-        there = λ e. clash true refl (ap isRefused e);
+        exactly = ((λ e. thirteen e), (λ h. absurd (clear q (w .1) (h .2))));
+        passes = λ f x a b k. clear x (w .2 .1 x a b) k;
+        notBack = λ f. w .2 .0;
       }
         where
-          thirteen : plainly 13 ≡ plainly 12 → (q < stop) × (blocked log set q ≡ true)
+          thirteen : plainly 13 ≡ plainly 12 → fit × (q < stop) × Blocked log set q
           thirteen e = absurd (let n : 13 ≡ 12 = ap code e in omega arith)
+
+  -- and it ends
+  pub play-ends : (hosting p stop : ℕ) (table : List ℕ) (cs : List Cell) → p ≤ stop → Ended stop (leftBy hosting stop table (play log set room p cs (stop - p)))
+  play-ends hosting p stop table cs l = go (play log set room p cs (stop - p)) (play-wait p cs (stop - p))
+    where
+      go : (x : Played) → PlayWait p (stop - p) x → Ended stop (leftBy hosting stop table x)
+      go (going u) w = there refl refl
+      go (waits q u) w = waiting refl (omega (arith, w .0))
+      go (lacks q u) w = noRoom refl (omega (arith, w .0))

@@ -1,17 +1,20 @@
 -- The cells of a table: read and stored back they are the table's bytes, and stored and read back they are the cells.
 use mathlib.Core.Path.{_≡_, refl, ap, ap₂, sym, _∙_}
-use mathlib.Core.Bool.{true}
+use mathlib.Core.Bool.{true, not}
 use mathlib.Core.List.{List, [], _++_}
-use Prim.Native.Nat.{ℕ, _+_, _*_, _≤_, _<_}
+use Prim.Native.Nat.{ℕ, _+_, _*_, _^_, _≤_, _<_}
 use native.Mathlib.Nat.{zero-add}
 use native.Mathlib.Omega.{arith}
 use lib.Dec.{ltb}
 use lib.ListN.{length, getD, take, drop, take-append-drop}
 use lib.Seq.{take-add, drop-drop}
-use borrow.Author.Tests.{ltb-true}
-use Rattle.lists.specs.Bytes.{beAt, bytesOf, bytesOf-beAt}
+use borrow.Author.Tests.{ltb-true, lt-ltb}
+use Rattle.lists.specs.Bytes.{beAt, beAt-lt, bytesOf, bytesOf-beAt}
 use Rattle.lists.specs.Rows.{joined, values, length-values, length-joined, values-same, values-joined, joined-values}
+use Rattle.lists.specs.Tests.{both}
 use Rattle.lists.specs.Sets.{all, all-getD}
+use Rattle.lists.specs.First.{seeking-from}
+use Rattle.lists.specs.Every.{failing, every-all}
 use Rattle.model.specs.Table.{Cell, cellAt, cellBytes, cellsOf, tableWith}
 use Rattle.laws.proofs.Items.{fitsCell, length-cell, cell-back}
 
@@ -60,3 +63,17 @@ module _ (table : List ℕ) (bytes : all (λ x. ltb x 256) table ≡ true) where
       ∙ joined-values cellBytes cellAt 24 table 0 count (λ k l. cell-bytes (0 + 24 * k) (omega arith)))
       (ap (λ (n : ℕ). drop (24 * n) table) (length-cells table count))
       ∙ take-append-drop (24 * count) table
+
+  -- a cell read from bytes fits them
+  cell-fits : (i : ℕ) → fitsCell (cellAt table i) ≡ true
+  unfolding cellAt
+  cell-fits i = both (both (both (both (field 4 i) (field 4 (i + 4))) (field 4 (i + 8))) (field 4 (i + 12))) (field 8 (i + 16))
+    where
+      field : (n j : ℕ) → ltb (beAt n table j) (256 ^ n) ≡ true
+      field n j = lt-ltb (beAt n table j) (256 ^ n) (beAt-lt n table j (λ k l. small (j + k)))
+
+  pub cells-fit : (count : ℕ) → all fitsCell (cellsOf table count) ≡ true
+  unfolding cellsOf
+  cells-fit count =
+      every-all fitsCell (λ i. cellAt table (24 * i))
+      (seeking-from (failing fitsCell (λ i. cellAt table (24 * i))) count count (omega arith) (λ i l. ap not (cell-fits (24 * i)))) (omega arith)

@@ -1,27 +1,23 @@
 -- The bytes of a table after a cell is stored: one row put in is the table with the cells after the store. A row that is there
 -- is replaced between those before and after it, a new one follows the last.
 use mathlib.Core.Path.{_≡_, refl, ap, ap₂, sym, _∙_}
-use mathlib.Core.Bool.{Bool, true, not, cond}
+use mathlib.Core.Bool.{Bool, true, cond}
 use mathlib.Core.Option.{some}
 use mathlib.Core.List.{List, [], _∷_, _++_, append-assoc}
-use Prim.Native.Nat.{ℕ, zero, suc, _+_, _-_, _*_, _^_, _≤_, _<_}
+use Prim.Native.Nat.{ℕ, zero, suc, _+_, _-_, _*_, _≤_, _<_}
 use native.Mathlib.Nat.{zero-add}
 use native.Mathlib.Omega.{arith}
 use lib.Dec.{ltb}
 use lib.ListN.{length, getD, take, drop, set, length-append, length-set, length-drop}
 use lib.Seq.{drop-at, take-at, split-at, set-split, length-take-le, drop-drop}
-use borrow.Author.Tests.{lt-ltb, ltb-true}
-use Rattle.lists.specs.Tests.{both}
-use Rattle.lists.specs.Sets.{all, all-getD}
-use Rattle.lists.specs.Bytes.{beAt, bytesOf, beAt-lt, length-bytesOf}
+use Rattle.lists.specs.Sets.{all}
+use Rattle.lists.specs.Bytes.{bytesOf, length-bytesOf}
 use Rattle.lists.specs.Rows.{values, joined, length-values, getD-values, joined-append}
-use Rattle.lists.specs.First.{seeking-from}
-use Rattle.lists.specs.Every.{failing, every-all}
 use Rattle.lists.specs.Splice.{splice, splice-then}
 use Rattle.model.specs.Entries.{Held}
 use Rattle.model.specs.Table.{Cell, cellAt, cellBytes, cellsOf, tableWith, heldBy, lookup, cellOf, store}
 use Rattle.laws.proofs.Items.{fitsCell, length-cell}
-use Rattle.laws.proofs.Tables.{length-cells, length-stored, cells-back, table-back}
+use Rattle.laws.proofs.Tables.{length-cells, length-stored, cells-back, table-back, cells-fit}
 use Rattle.laws.proofs.Stored.{bytes-all}
 use Rattle.table.specs.Rows.{rowIn}
 use Rattle.table.specs.RowLaws.{row-some, store-new, store-old, row-store-new, row-store-old, length-by-row, all-store}
@@ -138,23 +134,10 @@ cell-written t count row o k h small room e t′ f b u =
 -- ---- the cells then
 
 module _ (t : List ℕ) (bytes : all (λ x. ltb x 256) t ≡ true) (count : ℕ) where
-  cell-fits : (i : ℕ) → fitsCell (cellAt t i) ≡ true
-  unfolding cellAt
-  cell-fits i = both (both (both (both (field 4 i) (field 4 (i + 4))) (field 4 (i + 8))) (field 4 (i + 12))) (field 8 (i + 16))
-    where
-      field : (n j : ℕ) → ltb (beAt n t j) (256 ^ n) ≡ true
-      field n j = lt-ltb (beAt n t j) (256 ^ n) (beAt-lt n t j (λ k l. ltb-true (getD t (j + k) 0) 256 (all-getD (λ x. ltb x 256) t (j + k) 0 bytes refl)))
-
-  pub cells-fit : all fitsCell (cellsOf t count) ≡ true
-  unfolding cellsOf
-  cells-fit =
-      every-all fitsCell (λ i. cellAt t (24 * i))
-      (seeking-from (failing fitsCell (λ i. cellAt t (24 * i))) count count (omega arith) (λ i l. ap not (cell-fits (24 * i)))) (omega arith)
-
   -- they are read back as they were stored
   pub stored-back : (o k : ℕ) (h : Held) → fitsCell (cellOf o k h) ≡ true
       → cellsOf (tableWith t (store (cellsOf t count) o k h)) (length (store (cellsOf t count) o k h)) ≡ store (cellsOf t count) o k h
-  stored-back o k h f = cells-back t (store (cellsOf t count) o k h) (all-store fitsCell (cellsOf t count) o k h cells-fit f)
+  stored-back o k h f = cells-back t (store (cellsOf t count) o k h) (all-store fitsCell (cellsOf t count) o k h (cells-fit t bytes count) f)
 
 -- ---- the bytes of a table with cells
 

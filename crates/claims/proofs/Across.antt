@@ -1,0 +1,213 @@
+-- A play across one commit record by a replica that hosts all objects read, on any good log and any table bytes: it decides by its
+-- own cells, so it keeps them where a read is stale, and else makes the number's hosted writes where they have room.
+use Prim.Native.Nat.{ℕ, _+_, _-_, _*_, _<_, _≤_, _^_}
+use mathlib.Core.Path.{_≡_, refl, ap, ap₂, sym, _∙_, subst}
+use mathlib.Core.Bool.{Bool, true, false, cond, _&&_}
+use mathlib.Core.List.{List, [], _∷_, List·Memᴰ, List·Memᴰ·head, List·Memᴰ·tail}
+use mathlib.Core.Option.{Option, none, some}
+use native.Mathlib.Omega.{arith}
+use native.Mathlib.Nat.{add-zero}
+use borrow.Author.Tests.{leb-false}
+use lib.Dec.{eqb, leb}
+use lib.ListN.{length}
+use Rattle.lists.specs.Tests.{and-l, and-r, clash}
+use Rattle.lists.specs.Sets.{all, mem, meets}
+use Rattle.model.specs.Objects.{Shape, okShape, hosted}
+use Rattle.model.specs.Entries.{Write, Read, Held, Claim, contentOf, commit, effect, Log, writesOf, headerObjects, commitObjects, decided, readObjects}
+use Rattle.model.specs.Slot.{logIn}
+use Rattle.model.specs.Rules.{okWrite}
+use Rattle.model.specs.Table.{Cell, Holds, cellsOf, tableWith, capacity, lookup, store, apply}
+use Rattle.model.specs.Play.{Played, going, waits, lacks, commitsOver, alone, make, finish, act, step, play}
+use Rattle.model.specs.Answers.{done}
+use Rattle.model.specs.Replica.{Left, plainly, leftBy, leftWith, playFrom}
+use Rattle.model.specs.Run.{written, madeAll}
+use Rattle.model.specs.Histories.{Lent, inLog, isRefused, Carried, playOn, hosts}
+use Rattle.model.specs.Conditions.{Stale, Playable}
+use Rattle.model.specs.Claims.{doneWith, Alone, movedOn, tableHolds, AbortsAlone, ReplicaAborts}
+use Rattle.laws.proofs.Items.{fitsCell}
+use Rattle.laws.proofs.Tables.{length-cells, cells-back, table-back, cells-fit}
+use Rattle.laws.proofs.Refusals.{below-good}
+use Rattle.laws.proofs.Appends.{good-kept}
+use Rattle.laws.proofs.Slots.{Kept, writes-ok}
+use Rattle.claims.proofs.Conditions.{words-concerns, words-frame}
+use Rattle.claims.proofs.Counts.{same, put, other-object}
+use Rattle.claims.proofs.Cells.{lookup-store, all-store, write-fitting}
+use Rattle.claims.proofs.Aborts.{stale-refuses, refuses-stale}
+use Rattle.claims.proofs.Audits.{tail-small}
+use Rattle.claims.proofs.Leaves.{plays-so}
+
+-- ---- writes on the cells of a table
+
+module _ (set : List ℕ) (v : ℕ) where
+  one : Write → List Cell → List Cell
+  one w cs = cond (mem w.object set) (store cs w.object w.key (record { version = v; content = contentOf w })) cs
+
+  -- cells that are looked up alike before writes are so after them
+  made-alike : (ws : List Write) (a b : Holds) (o k : ℕ) → ((o′ k′ : ℕ) → mem o′ set ≡ true → a o′ k′ ≡ b o′ k′) → mem o set ≡ true → madeAll v ws a o k ≡ madeAll v ws b o k
+  made-alike [] a b o k e m = e o k m
+  made-alike (w ∷ ws) a b o k e m =
+      made-alike ws (written v w a) (written v w b) o k (λ o′ k′ i. ap (cond (eqb w.object o′ && eqb w.key k′) (some (record { version = v; content = contentOf w }))) (e o′ k′ i)) m
+
+  one-hosted : (w : Write) (cs : List Cell) (o k : ℕ) → mem o set ≡ true → lookup (one w cs) o k ≡ written v w (lookup cs) o k
+  unfolding one
+  one-hosted w cs o k m = go (mem w.object set) refl
+    where
+      go : (b : Bool) → mem w.object set ≡ b → lookup (cond b (store cs w.object w.key (record { version = v; content = contentOf w })) cs) o k ≡ written v w (lookup cs) o k
+      go true e = lookup-store cs (w .object) (w .key) (record { version = v; content = contentOf w }) o k
+      go false e = rw (other-object (w .object) (w .key) o k (λ i. clash (mem o set) m (rw i at e)))
+
+  one-other : (w : Write) (cs : List Cell) (o k : ℕ) → mem o set ≡ false → lookup (one w cs) o k ≡ lookup cs o k
+  unfolding one
+  one-other w cs o k m = go (mem w.object set) refl
+    where
+      go : (b : Bool) → mem w.object set ≡ b → lookup (cond b (store cs w.object w.key (record { version = v; content = contentOf w })) cs) o k ≡ lookup cs o k
+      go true e = lookup-store cs (w .object) (w .key) (record { version = v; content = contentOf w }) o k
+          ∙ rw (other-object (w .object) (w .key) o k (λ i. clash (mem w.object set) e (rw (← i) at m)))
+      go false e = refl
+
+  apply-hosted : (ws : List Write) (cs : List Cell) (o k : ℕ) → mem o set ≡ true → lookup (apply set v ws cs) o k ≡ madeAll v ws (lookup cs) o k
+  unfolding apply one
+  apply-hosted [] cs o k m = refl
+  apply-hosted (w ∷ ws) cs o k m =
+      apply-hosted ws (one w cs) o k m ∙ made-alike ws (lookup (one w cs)) (written v w (lookup cs)) o k (λ o′ k′ i. one-hosted w cs o′ k′ i) m
+
+  apply-other : (ws : List Write) (cs : List Cell) (o k : ℕ) → mem o set ≡ false → lookup (apply set v ws cs) o k ≡ lookup cs o k
+  unfolding apply one
+  apply-other [] cs o k m = refl
+  apply-other (w ∷ ws) cs o k m = apply-other ws (one w cs) o k m ∙ one-other w cs o k m
+
+  apply-looked : (ws : List Write) (cs : List Cell) (o k : ℕ) → lookup (apply set v ws cs) o k ≡ cond (mem o set) (madeAll v ws (lookup cs) o k) (lookup cs o k)
+  apply-looked ws cs o k = go (mem o set) refl
+    where
+      go : (b : Bool) → mem o set ≡ b → lookup (apply set v ws cs) o k ≡ cond b (madeAll v ws (lookup cs) o k) (lookup cs o k)
+      go true e = apply-hosted ws cs o k e
+      go false e = apply-other ws cs o k e
+
+  -- each write adds at most one cell
+  store-few : (cs : List Cell) (o k : ℕ) (h : Held) → length (store cs o k h) ≤ length cs + 1
+  unfolding store
+  store-few [] o k h = omega arith
+  store-few (c ∷ cs) o k h = go (eqb c.object o && eqb c.key k) (store-few cs o k h)
+    where
+      go : (b : Bool) → length (store cs o k h) ≤ length cs + 1 → length (cond b (Rattle.model.specs.Table.cellOf o k h ∷ cs) (c ∷ store cs o k h)) ≤ length (c ∷ cs) + 1
+      go true ih = omega arith
+      go false ih = omega arith
+
+  apply-few : (ws : List Write) (cs : List Cell) → length (apply set v ws cs) ≤ length cs + length ws
+  unfolding apply one
+  apply-few [] cs = omega arith
+  apply-few (w ∷ ws) cs = omega (arith, apply-few ws (one w cs), go (mem w.object set))
+    where
+      go : (b : Bool) → length (cond b (store cs w.object w.key (record { version = v; content = contentOf w })) cs) ≤ length cs + 1
+      go true = store-few cs (w .object) (w .key) (record { version = v; content = contentOf w })
+      go false = omega arith
+
+  apply-fits : (sh : Shape) → okShape sh ≡ true → v < 2 ^ 64 → (ws : List Write) (cs : List Cell) → all (okWrite sh) ws ≡ true → all fitsCell cs ≡ true → all fitsCell (apply set v ws cs) ≡ true
+  unfolding apply one
+  apply-fits sh shape small [] cs ok f = f
+  apply-fits sh shape small (w ∷ ws) cs ok f = apply-fits sh shape small ws (one w cs) (and-r (okWrite sh w) (all (okWrite sh) ws) ok) (go (mem w.object set))
+    where
+      go : (b : Bool) → all fitsCell (cond b (store cs w.object w.key (record { version = v; content = contentOf w })) cs) ≡ true
+      go true = all-store fitsCell cs (w .object) (w .key) (record { version = v; content = contentOf w }) f (write-fitting sh shape set v small w (and-l (okWrite sh w) (all (okWrite sh) ws) ok))
+      go false = f
+
+-- ---- the step at the commit record
+
+module _ (log : Log) (set : List ℕ) (room p n : ℕ) (c : Claim) (here : log .entry p ≡ commit n c) where
+  decides-alone : meets set (commitObjects log p n) ≡ true → alone set c ≡ true → (cs : List Cell)
+      → play log set room p cs (p + 1 - p) ≡ finish set room p (writesOf log n p) cs (some (commitsOver (lookup cs) c))
+  unfolding play step headerObjects
+  decides-alone m a cs =
+      let e : p + 1 - p ≡ 1 = omega arith in
+      ap (play log set room p cs) e ∙ rw (add-zero, here, m, a)
+
+reads-within : (set : List ℕ) (xs : List Read) → ((x : Read) → List·Memᴰ x xs → mem x.object set ≡ true) → alone set (record { reads = xs }) ≡ true
+reads-within set [] h = refl
+reads-within set (x ∷ xs) h = rw (h x (List·Memᴰ·head refl)) (reads-within set xs (λ y m. h y (List·Memᴰ·tail m)))
+
+-- ---- the play
+
+module _ (sh : Shape) (shape : okShape sh ≡ true) (l : Lent) (r : Carried) (n : ℕ) (c : Claim) (given : Alone sh l r n c) where
+  abbrev log : Log
+  log = inLog l
+
+  abbrev p : ℕ
+  p = r .replica .position
+
+  abbrev cs : List Cell
+  cs = cellsOf (r .table) (r .replica .count)
+
+  abbrev ws : List Write
+  ws = writesOf log n p
+
+  abbrev room : ℕ
+  room = capacity (r .table)
+
+  kept : Kept sh log (l .tail)
+  unfolding logIn
+  kept = good-kept sh log (below-good sh log (given .playable .good))
+
+  low : p < l .tail
+  low = omega (arith, given .playable .fit .within)
+
+  small-tail : l .tail ≤ 131072
+  unfolding logIn
+  small-tail = tail-small log (words-frame l (given .playable .framed))
+
+  crossed : playOn sh l r (p + 1) ≡ leftBy (r .replica .hosting) (p + 1) (r .table) (finish (hosts sh r) room p ws cs (some (commitsOver (lookup cs) c)))
+  crossed =
+      plays-so sh l r (p + 1) (given .playable)
+      ∙ ap (leftBy (r .replica .hosting) (p + 1) (r .table))
+      (decides-alone log (hosts sh r) room p n c (given .here) (words-concerns log (hosts sh r) n p (given .concerns))
+      (reads-within (hosts sh r) (c .reads) (given .hostsReads)) cs)
+
+  -- the counted cells stored again are the table
+  same-count : length cs ≡ r .replica .count
+  same-count = length-cells (r .table) (r .replica .count)
+
+  same-table : tableWith (r .table) cs ≡ r .table
+  same-table = table-back (r .table) (given .bytes) (r .replica .count) (omega (arith, given .playable .fit .counted))
+
+  pub aborts-alone : AbortsAlone sh l r n c (playOn sh l r (p + 1))
+  aborts-alone = rw crossed (go (commitsOver (lookup cs) c) refl)
+    where
+      out : Played → Left
+      out x = leftBy (r .replica .hosting) (p + 1) (r .table) x
+
+      made : (ok : all (okWrite sh) ws ≡ true) (o k : ℕ) → lookup (cellsOf (tableWith (r .table) (apply (hosts sh r) (p + 1) ws cs)) (length (apply (hosts sh r) (p + 1) ws cs))) o k
+          ≡ cond (mem o (hosts sh r)) (madeAll (p + 1) ws (tableHolds r) o k) (tableHolds r o k)
+      made ok o k =
+          let few : l .tail ≤ 131072 = small-tail in
+          ap (λ (ds : List Cell). lookup ds o k)
+          (cells-back (r .table) (apply (hosts sh r) (p + 1) ws cs)
+          (apply-fits (hosts sh r) (p + 1) sh shape (omega (arith, few, low)) ws cs ok (cells-fit (r .table) (given .bytes) (r .replica .count))))
+          ∙ apply-looked (hosts sh r) (p + 1) ws cs o k
+
+      current : (Stale (tableHolds r) c → ⊥) → AbortsAlone sh l r n c (out (make (hosts sh r) room p ws cs))
+      current fresh = by (leb (length (apply (hosts sh r) (p + 1) ws cs)) room) refl
+        where
+          by : (b : Bool) → leb (length (apply (hosts sh r) (p + 1) ws cs)) room ≡ b → AbortsAlone sh l r n c (out (cond b (going (apply (hosts sh r) (p + 1) ws cs)) (lacks p cs)))
+          by true e = record {
+            aborts = λ s. absurd (fresh s);
+            makes = λ f d. made (writes-ok sh log n p (λ o h. kept o (omega (arith, low))));
+            stays = λ d. absurd (d refl);
+            needs = λ d. absurd (d refl);
+          }
+          by false e = record {
+            aborts = λ s. absurd (fresh s);
+            makes = λ f d. clash true refl (ap isRefused d);
+            stays = λ d i. record { answer = plainly 13; replica = record { hosting = r .replica .hosting; position = p; count = same-count i }; table = same-table i };
+            needs = λ d. omega (arith, leb-false (length (apply (hosts sh r) (p + 1) ws cs)) room e, apply-few (hosts sh r) (p + 1) ws cs, same-count);
+          }
+
+      go : (b : Bool) → commitsOver (lookup cs) c ≡ b → AbortsAlone sh l r n c (out (finish (hosts sh r) room p ws cs (some b)))
+      go true e = current (λ s. clash (commitsOver (lookup cs) c) e (stale-refuses (lookup cs) c s))
+      go false e = record {
+        aborts = λ s i. record { answer = done tt; replica = record { hosting = r .replica .hosting; position = p + 1; count = same-count i }; table = same-table i };
+        makes = λ f d. absurd (f (refuses-stale (lookup cs) c e));
+        stays = λ d. absurd (d refl);
+        needs = λ d. absurd (d refl);
+      }
+
+pub replica-aborts : (sh : Shape) → okShape sh ≡ true → ReplicaAborts sh
+replica-aborts sh shape l r n c given = aborts-alone sh shape l r n c given

@@ -1,0 +1,199 @@
+-- What a play on any log leaves, from any record and any table: it ends, waiting exactly where it should, and leaves what a play to
+-- its own position leaves; or it is refused and changes nothing. The tests of a play pass exactly where nothing refuses it.
+use Prim.Native.Nat.{ℕ, _+_, _-_, _<_, _≤_}
+use mathlib.Core.Path.{_≡_, refl, ap, sym, _∙_, subst}
+use mathlib.Core.Bool.{Bool, true, false}
+use mathlib.Core.List.{List, [], _∷_, _++_}
+use mathlib.Core.Option.{Option, none, some}
+use native.Mathlib.Omega.{arith}
+use borrow.Author.Tests.{eqb-true, eqb-false, ne-eqb, ltb-false, le-ltb}
+use lib.Dec.{eqb, ltb}
+use lib.ListN.{length}
+use Rattle.lists.specs.Tests.{ors, neither, clash}
+use Rattle.model.specs.Objects.{Shape, hosted}
+use Rattle.model.specs.Entries.{Log}
+use Rattle.model.specs.Slot.{logIn}
+use Rattle.model.specs.Rules.{lowestBad}
+use Rattle.model.specs.Table.{Cell, cellsOf, tableWith, capacity}
+use Rattle.model.specs.Play.{Played, going, waits, lacks, cellsIn, play}
+use Rattle.model.specs.Answers.{Refusal, done, refused, refuse, refuseAt, firstOf, badFrame, frameAndEntries}
+use Rattle.model.specs.Append.{Replica, badReplica}
+use Rattle.model.specs.Replica.{Left, plainly, badStop, playRefusal, leftBy, playGiven, playFrom, playCall}
+use Rattle.model.specs.Histories.{Lent, inLog, isRefused, Carried, playOn, hosts}
+use Rattle.model.specs.Conditions.{Blocked, Fit, Playable, Ended, there, waiting, noRoom}
+use Rattle.model.specs.Claims.{Waiting, doneWith, PlayLeaves}
+use Rattle.model.specs.Worked.{code}
+use Rattle.laws.proofs.Refusals.{not-none, all-pass, refuse-none, refuseAt-none, good-below, below-good}
+use Rattle.claims.proofs.Conditions.{frame-words, words-frame}
+use Rattle.claims.proofs.Reached.{standsAt, Reached, play-reached}
+use Rattle.claims.proofs.Waits.{play-waits, play-ends}
+
+-- ---- the record and the stop
+
+pub fit-words : (tail : ℕ) (r : Carried) (stop : ℕ) → badReplica tail (r .replica) (r .table) ≡ false → badStop tail (r .replica) stop ≡ false → Fit tail r stop
+fit-words tail r stop b s =
+    let a : eqb (r .replica .hosting) 0 ≡ false = search ors in
+    let c : ltb (capacity (r .table)) (r .replica .count) ≡ false = search ors in
+    let d : ltb tail stop ≡ false = search ors in
+    let e : ltb stop (r .replica .position) ≡ false = search ors in
+    record {
+      hosting = eqb-false (r .replica .hosting) 0 a;
+      counted = ltb-false (capacity (r .table)) (r .replica .count) c;
+      onward = ltb-false stop (r .replica .position) e;
+      within = ltb-false tail stop d;
+    }
+
+module _ (tail : ℕ) (r : Carried) (stop : ℕ) (f : Fit tail r stop) where
+  pub words-replica : badReplica tail (r .replica) (r .table) ≡ false
+  words-replica = neither (neither (ne-eqb (r .replica .hosting) 0 (f .hosting)) (le-ltb (capacity (r .table)) (r .replica .count) (f .counted)))
+      (le-ltb tail (r .replica .position) (omega (arith, f .onward, f .within)))
+
+  pub words-stop : badStop tail (r .replica) stop ≡ false
+  words-stop = neither (le-ltb tail stop (f .within)) (le-ltb stop (r .replica .position) (f .onward))
+
+-- ---- the tests of a play
+
+abbrev numberIn : Option Refusal → ℕ
+numberIn none = 0
+numberIn (some x) = x .number
+
+-- none of its refusals is 12 or 13
+own-number : (a : Bool) (b : Option ℕ) (c d : Bool) (x : Refusal) → firstOf (refuse 1 a ∷ refuseAt 2 b ∷ refuse 10 c ∷ refuse 3 d ∷ []) ≡ some x → x .number < 12
+own-number true b c d x e = let n : 1 ≡ x .number = ap numberIn e in omega arith
+own-number false (some o) c d x e = let n : 2 ≡ x .number = ap numberIn e in omega arith
+own-number false none true d x e = let n : 10 ≡ x .number = ap numberIn e in omega arith
+own-number false none false true x e = let n : 3 ≡ x .number = ap numberIn e in omega arith
+own-number false none false false x e = not-none x (sym e)
+
+module _ (sh : Shape) (l : Lent) (r : Carried) (stop : ℕ) where
+  abbrev log : Log
+  log = inLog l
+
+  abbrev tests : List (Option Refusal)
+  tests = frameAndEntries sh log ++ (refuse 10 (badReplica (l .tail) (r .replica) (r .table)) ∷ refuse 3 (badStop (l .tail) (r .replica) stop) ∷ [])
+
+  pub playable-words : playRefusal sh log (r .replica) (r .table) stop ≡ none → Playable sh l r stop
+  unfolding logIn
+  playable-words e =
+      let pass = all-pass tests e in
+      record {
+        framed = frame-words l (refuse-none 1 _ (pass .0));
+        good = good-below sh log (refuseAt-none 2 _ (pass .1 .0));
+        fit = fit-words (l .tail) r stop (refuse-none 10 _ (pass .1 .1 .0)) (refuse-none 3 _ (pass .1 .1 .1 .0));
+      }
+
+  pub words-playable : Playable sh l r stop → playRefusal sh log (r .replica) (r .table) stop ≡ none
+  unfolding logIn
+  words-playable p = rw (words-frame l (p .framed), below-good sh log (p .good), words-replica (l .tail) r stop (p .fit), words-stop (l .tail) r stop (p .fit))
+
+  -- what such a play leaves
+  pub plays-so : Playable sh l r stop → playOn sh l r stop ≡ leftBy (r .replica .hosting) stop (r .table) (playFrom sh log (r .replica) (r .table) stop)
+  unfolding playCall
+  plays-so p = ap (playGiven (r .replica) stop (r .table) (playFrom sh log (r .replica) (r .table) stop)) (words-playable p)
+
+  -- ---- it reached its position with the cells that it leaves
+
+  abbrev from : Played
+  from = playFrom sh log (r .replica) (r .table) stop
+
+  left-at : (x : Played) → leftBy (r .replica .hosting) stop (r .table) x .replica .position ≡ standsAt log [] 0 stop x
+  left-at (going cs) = refl
+  left-at (waits q cs) = refl
+  left-at (lacks q cs) = refl
+
+  left-done : (x : Played) → leftBy (r .replica .hosting) (standsAt log [] 0 stop x) (r .table) (going (cellsIn x))
+      ≡ doneWith (leftBy (r .replica .hosting) stop (r .table) x .replica) (leftBy (r .replica .hosting) stop (r .table) x .table)
+  left-done (going cs) = refl
+  left-done (waits q cs) = refl
+  left-done (lacks q cs) = refl
+
+  module _ (p : Playable sh l r stop) where
+    reached : Reached log (hosts sh r) (capacity (r .table)) (r .replica .position) (cellsOf (r .table) (r .replica .count)) (stop - r .replica .position) (standsAt log [] 0 stop from) (cellsIn from)
+    reached =
+        let e : r .replica .position + (stop - r .replica .position) ≡ stop = omega (arith, p .fit .onward) in
+        subst (λ (n : ℕ). Reached log (hosts sh r) (capacity (r .table)) (r .replica .position) (cellsOf (r .table) (r .replica .count)) (stop - r .replica .position) (standsAt log [] 0 n from) (cellsIn from)) e
+        (play-reached log (hosts sh r) (capacity (r .table)) (r .replica .position) (cellsOf (r .table) (r .replica .count)) (stop - r .replica .position))
+
+    -- a play to that position is one that nothing refuses
+    pub to-there : Playable sh l r (standsAt log [] 0 stop from)
+    to-there = record {
+      framed = p .framed;
+      good = p .good;
+      fit = record {
+        hosting = p .fit .hosting;
+        counted = p .fit .counted;
+        onward = reached .from;
+        within = omega (arith, reached .to, p .fit .onward, p .fit .within);
+      };
+    }
+
+-- a play to its own position is done, and leaves the same
+stays-there : (sh : Shape) (l : Lent) (r : Carried) (stop : ℕ) → Playable sh l r stop
+    → playOn sh l r (playOn sh l r stop .replica .position) ≡ doneWith (playOn sh l r stop .replica) (playOn sh l r stop .table)
+stays-there sh l r stop p =
+    let out : Left = leftBy (r .replica .hosting) stop (r .table) (from sh l r stop) in
+    let same : playOn sh l r stop ≡ out = plays-so sh l r stop p in
+    let at : ℕ = standsAt (inLog l) [] 0 stop (from sh l r stop) in
+    ap (λ (x : Left). playOn sh l r (x .replica .position)) same
+    ∙ ap (playOn sh l r) (left-at sh l r stop (from sh l r stop))
+    ∙ plays-so sh l r at (to-there sh l r stop p)
+    ∙ ap (leftBy (r .replica .hosting) at (r .table)) (reached sh l r stop p .by)
+    ∙ left-done sh l r stop (from sh l r stop)
+    ∙ ap (λ (x : Left). doneWith (x .replica) (x .table)) (sym same)
+
+-- ---- a play that is refused
+
+not-ended : (stop : ℕ) (x : Refusal) (r : Replica) (table : List ℕ) → x .number < 12 → Ended stop (record { answer = refused x; replica = r; table = table }) → ⊥
+not-ended stop x r table l (there e h) = clash true refl (ap isRefused e)
+not-ended stop x r table l (waiting e h) = let n : x .number ≡ 12 = ap code e in omega arith
+not-ended stop x r table l (noRoom e h) = let n : x .number ≡ 13 = ap code e in omega arith
+
+pub play-leaves : (sh : Shape) (l : Lent) (r : Carried) (stop : ℕ) → PlayLeaves sh l r stop (playOn sh l r stop)
+unfolding playCall logIn
+play-leaves sh l r stop = go (playRefusal sh (inLog l) (r .replica) (r .table) stop) refl
+  where
+    go : (x : Option Refusal) → playRefusal sh (inLog l) (r .replica) (r .table) stop ≡ x → PlayLeaves sh l r stop (playOn sh l r stop)
+    go none e =
+        let p : Playable sh l r stop = playable-words sh l r stop e in
+        record {
+          ends = ((λ x. p), (λ x. rw (plays-so sh l r stop p) (play-ends (inLog l) (hosts sh r) (capacity (r .table)) (r .replica .hosting) (r .replica .position) stop (r .table) (cellsOf (r .table) (r .replica .count)) (p .fit .onward))));
+          unchanged = λ h. absurd (h p);
+          stopped = stays-there sh l r stop;
+          waits = rw (plays-so sh l r stop p) (play-waits (inLog l) (hosts sh r) (capacity (r .table)) (Playable sh l r stop) p (r .replica .hosting) (r .replica .position) stop (r .table) (cellsOf (r .table) (r .replica .count)) (p .fit .onward));
+        }
+    go (some x) e =
+        let same : playOn sh l r stop ≡ record { answer = refused x; replica = r .replica; table = r .table } =
+        ap (playGiven (r .replica) stop (r .table) (playFrom sh (inLog l) (r .replica) (r .table) stop)) e in
+        let low : x .number < 12 = own-number (badFrame (inLog l)) (lowestBad sh (inLog l)) (badReplica (l .tail) (r .replica) (r .table)) (badStop (l .tail) (r .replica) stop) x e in
+        let no : Playable sh l r stop → ⊥ = λ p. not-none x (sym e ∙ words-playable sh l r stop p) in
+        record {
+          ends = ((λ h. absurd (not-ended stop x (r .replica) (r .table) low (subst (Ended stop) same h))), (λ p. absurd (no p)));
+          unchanged = λ h. (ap (λ (y : Left). y .replica) same, ap (λ (y : Left). y .table) same);
+          stopped = λ p. absurd (no p);
+          waits = record {
+            exactly = ((λ h. absurd (let n : x .number ≡ 12 = ap code (ap (λ (y : Left). y .answer) (sym same) ∙ h) in omega arith)), (λ h. absurd (no (h .0))));
+            passes = λ p. absurd (no p);
+            notBack = λ p. absurd (no p);
+          };
+        }
+
+-- what makes a play one that nothing refuses, in other words
+pub refit : (a b : Type 0) (log : Log) (set : List ℕ) (from stop : ℕ) (out : Left) → (a → b) → (b → a) → Waiting a log set from stop out → Waiting b log set from stop out
+refit a b log set from stop out f g w = record {
+  exactly = ((λ e. let h = w .exactly .0 e in (f (h .0), h .1, h .2)), (λ h. w .exactly .1 (g (h .0), h .1, h .2)));
+  passes = λ x. w .passes (g x);
+  notBack = λ x. w .notBack (g x);
+}
+
+-- a play that answers 12 or 13 is one that nothing refuses
+pub answered : (sh : Shape) (l : Lent) (r : Carried) (stop n : ℕ) → 12 ≤ n → playOn sh l r stop .answer ≡ plainly n → Playable sh l r stop
+unfolding playCall logIn
+answered sh l r stop n high h = go (playRefusal sh (inLog l) (r .replica) (r .table) stop) refl
+  where
+    go : (x : Option Refusal) → playRefusal sh (inLog l) (r .replica) (r .table) stop ≡ x → Playable sh l r stop
+    go none e = playable-words sh l r stop e
+    go (some x) e =
+        let low : x .number < 12 = own-number (badFrame (inLog l)) (lowestBad sh (inLog l)) (badReplica (l .tail) (r .replica) (r .table)) (badStop (l .tail) (r .replica) stop) x e in
+        let same : refused x ≡ plainly n =
+        sym (ap (λ (y : Option Refusal). playGiven (r .replica) stop (r .table) (playFrom sh (inLog l) (r .replica) (r .table) stop) y .answer) e) ∙ h in
+        absurd (let k : x .number ≡ n = ap code same in omega arith)
