@@ -1,6 +1,8 @@
-pub mod Histories
 pub mod Promises
+pub mod Histories
+pub mod Demand1
+pub mod Appends
+pub mod Audits
+pub mod Openings
 pub mod Behave
-pub mod ReadBack
-pub mod KeepGood
 pub mod Instalments

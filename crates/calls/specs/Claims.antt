@@ -1,103 +1,168 @@
--- Demands 2 and 3 as types over calls as values. What a call answered and left is all that they name, beside the run.
-use Prim.Native.Nat.{ℕ, _+_, _<_, _≤_}
+-- The demands as types over calls as values: what calls answered and left is all that they name, beside the conditions and the run.
+use Prim.Native.Nat.{ℕ, _+_, _*_, _<_, _≤_}
 use mathlib.Core.Path.{_≡_}
-use mathlib.Core.Bool.{Bool, true, false}
-use mathlib.Core.List.{List, List·Memᴰ}
-use mathlib.Core.Option.{Option, some}
-use Rattle.lists.specs.Sets.{mem, meets}
+use mathlib.Core.Logic.{_↔_}
+use mathlib.Core.Bool.{true, false}
+use mathlib.Core.List.{List, _∷_, _++_, List·Memᴰ}
+use mathlib.Core.Option.{Option}
+use denote.Ref.{now}
+use lib.Dec.{ltb}
+use lib.ListN.{length, take, drop}
+use Rattle.lists.specs.Sets.{mem, ascending}
 use Rattle.model.specs.Objects.{theObjects, depots, isCell, hosted}
-use Rattle.model.specs.Entries.{Read, Held, Claim, commit, headerObjects, numberOf}
-use Rattle.model.specs.Table.{cellsOf, capacity, versionIn}
-use Rattle.model.specs.Play.{outcome}
+use Rattle.model.specs.Entries.{Read, Held, Claim, commit as commits-at}
+use Rattle.model.specs.Slot.{slotSize}
+use Rattle.model.specs.Table.{capacity, versionIn}
 use Rattle.model.specs.Answers.{done}
-use Rattle.model.specs.Append.{entryOf, badReplica}
-use Rattle.model.specs.Replica.{Left, plainly, badStop}
-use Rattle.model.specs.Run.{current}
-use Rattle.model.specs.Histories.{Lent, inLog, cellsWritten}
-use Rattle.model.specs.Claims.{Waiting, Bytes, givenItems, kindGiven, headerObjectsIn}
+use Rattle.model.specs.Append.{Request, commits, claimGiven}
+use Rattle.model.specs.Replica.{Left, plainly}
+use Rattle.model.specs.Run.{madeAll}
+use Rattle.model.specs.Histories.{Lent, inLog, isRefused, cellsWritten}
+use Rattle.model.specs.Conditions.{Framed, Stale, Concerns, Blocked, Fit, Playable, Ended, Unstopped}
+use Rattle.model.specs.Claims.{Bytes, Waiting, doneWith, kindGiven, NumberGiven, ObjectsGiven, ItemsGiven, headerObjectsIn, Alone, AbortsAlone, Audits, OpenedAt}
 use Rattle.entries.specs.declared.calls.Checked.the-variants as checked
 use Rattle.entries.specs.declared.calls.Info.{Info}
 use Rattle.entries.specs.declared.calls.Found.the-variants as found
-use Rattle.entries.specs.Answers.{checkedIn, infoOf}
+use Rattle.entries.specs.Answers.{infoOf}
 use Rattle.answers.specs.declared.Refusal.the-variants as refusal
 use Rattle.codec.specs.declared.names.Offset.{Offset}
 use Rattle.append.specs.declared.write.Appended.the-variants as appended
+use Rattle.append.specs.Answers.{tailIn}
 use Rattle.records.specs.Record.{replicaIn}
+use Rattle.replica.specs.declared.opening.Opened.the-variants as opened
 use Rattle.replica.specs.Answers.{readIn}
-use Rattle.calls.specs.Values.{AppendCall, Appends, lastLog, logAfter, ran, CheckCall, EntryCall, ItemsCall, AuditCall, Kept, Opens, PlayOn, PlayCall, Plays, ReadCall}
-
--- ---- demand 3
+use Rattle.replica.proofs.opening.open_fresh.Kinds as fresh-kinds
+use Rattle.replica.proofs.opening.open_fresh.Reads as fresh-reads
+use Rattle.calls.specs.Values.{Call, AppendCall, seen, Grows, leftBy, Appends, lastLog, logAfter, ran, CheckCall, EntryCall, ItemsCall, part, AuditCall, scratch, auditLeft, Kept, carry, OpenCall, openLeft, Opens, PlayOn, stopOf, kept, playLeft, PlayCall, Plays, ReadCall}
 
 abbrev pub hosts : Kept → List ℕ
 hosts k = hosted depots (k .replica .hosted)
 
--- a play that is not refused for its record or its stop
-abbrev pub Fit : (a : Appends) (k : Kept) → PlayCall a k → Type 0
-Fit a k p = (badReplica (logAfter a (p .stoodAfter) .tail) (replicaIn (k .replica)) (k .table) ≡ false)
-    × (badStop (logAfter a (p .stoodAfter) .tail) (replicaIn (k .replica)) (p .on .stop) ≡ false)
-
--- what the calls on a replica say after its plays: the sentences of `Shows` in the model's claims
-pub record Behaves (a : Appends) (k : Kept) : Type 0 where
-  pub cells : (o key : ℕ) (c : ReadCall k o key) → mem o (hosts k) ≡ true → isCell depots o key ≡ true
-      → readIn (c .answer) ≡ done (ran a (k .replica .position) .cells o key)
-  pub count : k .replica .count ≡ cellsWritten theObjects (hosts k) (ran a (k .replica .position) .cells)
-  pub waits : (p : PlayCall a k) → Fit a k p
-      → Waiting (inLog (logAfter a (p .stoodAfter))) (hosts k) (k .replica .position) (p .on .stop)
-      (record { answer = checkedIn (p .on .answer); replica = replicaIn (p .on .kept .replica); table = p .on .kept .table })
-  pub lacks : (p : PlayCall a k) → Fit a k p → checkedIn (p .on .answer) ≡ plainly 13
-      → capacity (k .table) < cellsWritten theObjects (hosts k) (ran a (p .on .kept .replica .position + 1) .cells)
-  pub rereads : (p n : ℕ) (c : Claim) (x : Read) (r : ReadCall k (x .object) (x .key)) (held : Option Held) → p < lastLog a .tail
-      → inLog (lastLog a) .entry p ≡ commit n c → current (ran a p .cells) (c .reads) ≡ true
-      → List·Memᴰ x (c .reads) → readIn (r .answer) ≡ done held → versionIn held ≡ x .version
-      → ran a p .cells x.object x.key ≡ held
-  -- demand 2: the outcome that the replica takes at a commit record of its objects is the run's
-  pub outcomes : (n m : ℕ) (c : Claim) (b : Bool) → inLog (logAfter a n) .entry (k .replica .position) ≡ commit m c
-      → meets (hosts k) (headerObjects (inLog (logAfter a n)) (k .replica .position) (commit m c)) ≡ true
-      → outcome (inLog (logAfter a n)) (hosts k) (k .replica .position) (cellsOf (k .table) (k .replica .count)) c ≡ some b
-      → b ≡ current (ran a (k .replica .position) .cells) (c .reads)
-
-abbrev pub CallsBehave : Type 0
-CallsBehave = (a : Appends) (audit : AuditCall (lastLog a)) → audit .answer ≡ checked.Done
-    → (k : Kept) → Opens a k → (last : Kept) → Plays a k last → Behaves a last
-
--- ---- demand 2
-
 abbrev pub lentAt : AppendCall → Lent
-lentAt c = record { bytes = c .bytes; tail = c .tail }
+lentAt c = record { bytes = seen c .bytes; tail = seen c .tail }
 
--- "What append wrote reads back as what was given"
-pub record Returns (c : AppendCall) (answer : Info) (part : List ℕ) : Type 0 where
-  pub kind : infoOf answer .kind ≡ kindGiven (c .request)
-  pub number : infoOf answer .number ≡ numberOf (inLog (lentAt c)) (c .tail) (entryOf (c .request))
-  pub objects : headerObjectsIn (infoOf answer) ≡ headerObjects (inLog (lentAt c)) (c .tail) (entryOf (c .request))
-  pub items : Bytes (givenItems (c .request)) → part ≡ givenItems (c .request)
+-- ---- demand 1
 
-abbrev pub CallsReadBack : Type 0
-CallsReadBack = (c : AppendCall) (t : ℕ) → c .answer ≡ appended.Tail t
-    → (e : EntryCall (record { bytes = c .left; tail = t }) (c .tail)) (i : ItemsCall (record { bytes = c .left; tail = t }) (c .tail))
-    → (answer : Info) × (e .answer ≡ found.Entry answer) × Returns c answer (i .part)
+-- what a play on any log leaves, from any record and any table
+pub record PlayLeaves (log : Lent) (k : Kept) (p : PlayOn log k) : Type 0 where
+  pub ends : Ended (stopOf p) (playLeft p) ↔ Playable depots log (carry k) (stopOf p)
+  pub unchanged : (Playable depots log (carry k) (stopOf p) → ⊥) → carry (kept p) ≡ carry k
+  -- a play to its own position is done and leaves the same
+  pub stopped : Playable depots log (carry k) (stopOf p) → (q : PlayOn log k) → stopOf q ≡ kept p .replica .position
+      → playLeft q ≡ doneWith (replicaIn (kept p .replica)) (kept p .table)
+  pub waits : Waiting (Playable depots log (carry k) (stopOf p)) (inLog log) (hosts k) (k .replica .position) (stopOf p) (playLeft p)
 
--- "over the same earlier log, two accepted entries that read alike are the same bytes"
-abbrev pub CallsSameBytes : Type 0
-CallsSameBytes = (c d : AppendCall) (t u : ℕ) → c .bytes ≡ d .bytes → c .tail ≡ d .tail → c .answer ≡ appended.Tail t → d .answer ≡ appended.Tail u
-    → (e : EntryCall (record { bytes = c .left; tail = t }) (c .tail)) (i : ItemsCall (record { bytes = c .left; tail = t }) (c .tail))
-    → (f : EntryCall (record { bytes = d .left; tail = u }) (d .tail)) (j : ItemsCall (record { bytes = d .left; tail = u }) (d .tail))
-    → (m n : Info) → e .answer ≡ found.Entry m → f .answer ≡ found.Entry n
-    → infoOf m .kind ≡ infoOf n .kind → infoOf m .number ≡ infoOf n .number → headerObjectsIn (infoOf m) ≡ headerObjectsIn (infoOf n)
-    → i .part ≡ j .part → c .left ≡ d .left
-
--- append keeps a log good: the check of the log that a list of appends left never tells a bad entry
-abbrev pub CallsKeepGood : Type 0
-CallsKeepGood = (a : Appends) (c : CheckCall (lastLog a)) (o : Offset) → c .answer ≡ checked.Refused (refusal.BadEntry o) → ⊥
-
--- ---- instalments
-
-abbrev pub leftOf : (log : Lent) (k : Kept) → PlayOn log k → Left
-leftOf log k p = record { answer = checkedIn (p .answer); replica = replicaIn (p .kept .replica); table = p .kept .table }
+pub record CallsDemand1 : Type 0 where
+  pub refusedAppend : (c : AppendCall) → isRefused (tailIn (seen c .answer)) ≡ true → seen c .left ≡ seen c .bytes
+  pub playLeaves : (log : Lent) (k : Kept) (p : PlayOn log k) → PlayLeaves log k p
 
 -- a play to one stop and then to a second gives the answer, the record and the table of one play to the second
 abbrev pub CallsInstalments : Type 0
 CallsInstalments = (log : Lent) (k : Kept) → Bytes (k .table)
-    → (first : PlayOn log k) (second : PlayOn log (first .kept)) (whole : PlayOn log k)
-    → second .stop ≡ whole .stop → first .stop ≤ whole .stop → whole .stop ≤ log .tail
-    → leftOf log (first .kept) second ≡ leftOf log k whole
+    → (first : PlayOn log k) (second : PlayOn log (kept first)) (whole : PlayOn log k)
+    → stopOf second ≡ stopOf whole → stopOf first ≤ stopOf whole → stopOf whole ≤ log .tail
+    → playLeft second ≡ playLeft whole
+
+-- ---- demand 2
+
+-- an append is accepted exactly when no line of document 01's table stops it
+abbrev pub CallsAccept : Type 0
+CallsAccept = (c : AppendCall) → (isRefused (tailIn (seen c .answer)) ≡ false) ↔ Unstopped depots (lentAt c) (seen c .request)
+
+-- an accepted append answers the new tail and writes the slot at the old one
+pub record Wrote (c : AppendCall) (t : ℕ) : Type 0 where
+  pub next : t ≡ seen c .tail + 1
+  pub size : length (seen c .left) ≡ length (seen c .bytes)
+  pub front : take (slotSize * seen c .tail) (seen c .left) ≡ take (slotSize * seen c .tail) (seen c .bytes)
+  pub rest : drop (slotSize * t) (seen c .left) ≡ drop (slotSize * t) (seen c .bytes)
+
+abbrev pub CallsWrite : Type 0
+CallsWrite = (c : AppendCall) (t : ℕ) → seen c .answer ≡ appended.Tail t → Wrote c t
+
+-- the check of the log that a list of appends left never tells a bad entry
+abbrev pub CallsKeepGood : Type 0
+CallsKeepGood = (a : Appends) (c : CheckCall (lastLog a)) (o : Offset) → c .call .answer ≡ checked.Refused (refusal.BadEntry o) → ⊥
+
+-- what was given, as the entry call and the item list tell it
+pub record Returns (c : AppendCall) (answer : Info) (items : List ℕ) : Type 0 where
+  pub kind : infoOf answer .kind ≡ kindGiven (seen c .request)
+  pub number : NumberGiven (inLog (lentAt c)) (seen c .request) (infoOf answer .number)
+  pub objects : ObjectsGiven (inLog (lentAt c)) (seen c .request) (headerObjectsIn (infoOf answer))
+  pub ascend : ascending ltb (headerObjectsIn (infoOf answer)) ≡ true
+  pub items : ItemsGiven (seen c .request) items
+
+-- "What append wrote reads back as what was given", after any further appends
+abbrev pub CallsReadBack : Type 0
+CallsReadBack = (c : AppendCall) (t : ℕ) → seen c .answer ≡ appended.Tail t
+    → (later : List AppendCall) → Grows (seen c .left) t later
+    → (e : EntryCall (leftBy (seen c .left) t later) (seen c .tail)) (i : ItemsCall (leftBy (seen c .left) t later) (seen c .tail))
+    → (answer : Info) × (e .call .answer ≡ found.Entry answer) × Returns c answer (part i)
+
+-- "over the same earlier log, two accepted entries that read alike are the same bytes"
+abbrev pub CallsSameBytes : Type 0
+CallsSameBytes = (c d : AppendCall) (t u : ℕ) → lentAt c ≡ lentAt d → seen c .answer ≡ appended.Tail t → seen d .answer ≡ appended.Tail u
+    → (e : EntryCall (record { bytes = seen c .left; tail = t }) (seen c .tail)) (i : ItemsCall (record { bytes = seen c .left; tail = t }) (seen c .tail))
+    → (f : EntryCall (record { bytes = seen d .left; tail = u }) (seen d .tail)) (j : ItemsCall (record { bytes = seen d .left; tail = u }) (seen d .tail))
+    → (m n : Info) → e .call .answer ≡ found.Entry m → f .call .answer ≡ found.Entry n
+    → infoOf m .kind ≡ infoOf n .kind → infoOf m .number ≡ infoOf n .number → headerObjectsIn (infoOf m) ≡ headerObjectsIn (infoOf n)
+    → part i ≡ part j → seen c .left ≡ seen d .left
+
+-- "a transaction aborts exactly when some cell it read has another version": a play across one commit record, on any bytes
+abbrev pub CallsAbort : Type 0
+CallsAbort = (log : Lent) (k : Kept) (p : PlayOn log k) (n : ℕ) (c : Claim) → stopOf p ≡ k .replica .position + 1
+    → Alone depots log (carry k) n c → AbortsAlone depots log (carry k) n c (playLeft p)
+
+-- ---- the audit and openings
+
+abbrev pub CallsAudit : Type 0
+CallsAudit = (a : Appends) (c : AuditCall (lastLog a)) → Framed (lastLog a) → Audits depots (lastLog a) (ran a) (scratch c) (auditLeft c)
+
+-- on any log
+abbrev pub CallsNeverWait : Type 0
+CallsNeverWait = (log : Lent) (c : AuditCall log) → c .call .answer .answer ≡ checked.Refused refusal.Waiting → ⊥
+
+pub record CallsOpen : Type 0 where
+  pub fresh : (c : Call fresh-kinds.ps fresh-kinds.r fresh-reads.Learnt) → (c .given .0 ≡ 0 → ⊥)
+      → (c .answer) ≡ opened.Replica (record { hosted = c .given .0; position = 0; count = 0 })
+  pub atCheckpoint : (log : Lent) (c : OpenCall log) → c .call .answer .answer ≡ checked.Done
+      → OpenedAt depots (inLog log) (c .call .given .1 .1 .0) (now (c .call .given .1 .1 .1 .0)) (openLeft c)
+
+-- ---- demand 3, and the outcomes of demand 2
+
+-- a play from a commit record of the replica's objects to the next offset, on the log as it stood: the run's outcome, or it waits
+pub record Crosses (a : Appends) (k : Kept) (p : PlayCall a k) (n : ℕ) (c : Claim) : Type 0 where
+  pub ends : Ended (k .replica .position + 1) (playLeft (p .on))
+  pub aborts : playLeft (p .on) .answer ≡ done tt → Stale (ran a (k .replica .position) .cells) c → (o key : ℕ) → mem o (hosts k) ≡ true → isCell depots o key ≡ true
+      → (before : ReadCall k o key) (after : ReadCall (kept (p .on)) o key) → readIn (after .call .answer) ≡ readIn (before .call .answer)
+  pub makes : playLeft (p .on) .answer ≡ done tt → (Stale (ran a (k .replica .position) .cells) c → ⊥) → (o key : ℕ) → mem o (hosts k) ≡ true → isCell depots o key ≡ true
+      → (after : ReadCall (kept (p .on)) o key)
+      → readIn (after .call .answer) ≡ done (madeAll (k .replica .position + 1) (ran a (k .replica .position) .aside n) (ran a (k .replica .position) .cells) o key)
+  pub waits : (playLeft (p .on) .answer ≡ plainly 12) ↔ Blocked (inLog (logAfter a (p .stoodAfter))) (hosts k) (k .replica .position)
+  pub lacks : playLeft (p .on) .answer ≡ plainly 13 → Stale (ran a (k .replica .position) .cells) c → ⊥
+
+-- what the calls on a replica say after its plays: the sentences of `Shows` in the model's claims
+pub record Behaves (a : Appends) (k : Kept) : Type 0 where
+  pub cells : (o key : ℕ) (c : ReadCall k o key) → mem o (hosts k) ≡ true → isCell depots o key ≡ true
+      → readIn (c .call .answer) ≡ done (ran a (k .replica .position) .cells o key)
+  pub count : k .replica .count ≡ cellsWritten theObjects (hosts k) (ran a (k .replica .position) .cells)
+  pub waits : (p : PlayCall a k) → Waiting (Fit (logAfter a (p .stoodAfter) .tail) (carry k) (stopOf (p .on))) (inLog (logAfter a (p .stoodAfter))) (hosts k)
+      (k .replica .position) (stopOf (p .on)) (playLeft (p .on))
+  pub ends : (p : PlayCall a k) → Ended (stopOf (p .on)) (playLeft (p .on)) ↔ Fit (logAfter a (p .stoodAfter) .tail) (carry k) (stopOf (p .on))
+  pub lacks : (p : PlayCall a k) → playLeft (p .on) .answer ≡ plainly 13
+      → capacity (k .table) < cellsWritten theObjects (hosts k) (ran a (kept (p .on) .replica .position + 1) .cells)
+  -- a committed read of an accepted commit, made again at its turn
+  pub rereads : (before later : List AppendCall) (c : AppendCall) (n : ℕ) (items : List ℕ) → a .calls ≡ before ++ c ∷ later
+      → seen c .request ≡ commits n items → isRefused (tailIn (seen c .answer)) ≡ false
+      → (Stale (ran a (seen c .tail) .cells) (claimGiven items) → ⊥)
+      → (x : Read) (r : ReadCall k (x .object) (x .key)) (held : Option Held) → List·Memᴰ x (claimGiven items .reads)
+      → readIn (r .call .answer) ≡ done held → versionIn held ≡ x .version
+      → ran a (seen c .tail) .cells x.object x.key ≡ held
+  pub outcomes : (p : PlayCall a k) (n : ℕ) (c : Claim) → stopOf (p .on) ≡ k .replica .position + 1
+      → inLog (logAfter a (p .stoodAfter)) .entry (k .replica .position) ≡ commits-at n c
+      → Fit (logAfter a (p .stoodAfter) .tail) (carry k) (k .replica .position + 1)
+      → Concerns (inLog (logAfter a (p .stoodAfter))) (hosts k) n (k .replica .position)
+      → Crosses a k p n c
+
+abbrev pub CallsBehave : Type 0
+CallsBehave = (a : Appends) (audit : AuditCall (lastLog a)) → audit .call .answer .answer ≡ checked.Done
+    → (k : Kept) → Opens a k → (last : Kept) → Plays a k last → Behaves a last

@@ -1,15 +1,21 @@
--- The two demands for the eight objects of the trade: the shape is a good one by computation, and what was proved for every good
--- shape holds of it.
+-- The demands for the eight objects of the trade: the shape is a good one by computation, and what was proved for every good shape
+-- holds of it.
 use mathlib.Core.Path.{_≡_, refl}
 use mathlib.Core.Bool.{true}
 use Rattle.model.specs.Objects.{okShape, depots}
-use Rattle.model.specs.Claims.{Demand2, Demand3, KeepsGood}
-use Rattle.claims.proofs.KeepsGood.{keeps-good}
-use Rattle.claims.proofs.Demand3.{demand3}
+use Rattle.model.specs.Claims.{Demand1, Demand2, Demand3, AuditsExactly, NeverWaits, OpensAt, OpensWherever}
+use Rattle.claims.proofs.Demand1.{demand1}
 use Rattle.claims.proofs.Demand2.{demand2}
+use Rattle.claims.proofs.Demand3.{demand3}
+use Rattle.claims.proofs.AuditExactly.{audits-exactly}
+use Rattle.claims.proofs.NeverWaits.{never-waits}
+use Rattle.claims.proofs.Opened.{opens-at, opens-wherever}
 
 good-shape : okShape depots ≡ true
 good-shape = refl
+
+pub demand1-depots : Demand1 depots
+demand1-depots = demand1 depots
 
 pub demand2-depots : Demand2 depots
 demand2-depots = demand2 depots good-shape
@@ -17,5 +23,14 @@ demand2-depots = demand2 depots good-shape
 pub demand3-depots : Demand3 depots
 demand3-depots = demand3 depots good-shape
 
-pub keeps-good-depots : KeepsGood depots
-keeps-good-depots = keeps-good depots good-shape
+pub audits-depots : AuditsExactly depots
+audits-depots = audits-exactly depots good-shape
+
+pub never-waits-depots : NeverWaits depots
+never-waits-depots = never-waits depots
+
+pub opens-at-depots : OpensAt depots
+opens-at-depots = opens-at depots good-shape
+
+pub opens-wherever-depots : OpensWherever depots
+opens-wherever-depots = opens-wherever depots
