@@ -156,7 +156,7 @@ module _ (sh : Shape) (log : Log) where
   words-outcome v (inl e) = rw e
   words-outcome v (inr e) = rw e
 
-  pub decision-words : (o v : ℕ) → AllPass (ownTests sh log (decides o v)) → DecisionAllowed log o v
+  decision-words : (o v : ℕ) → AllPass (ownTests sh log (decides o v)) → DecisionAllowed log o v
   unfolding ownTests
   decision-words o v t =
       let given : (leb (log .tail) o || not (okOutcome v)) ≡ false = refuse-none 3 _ (t .0) in
