@@ -91,7 +91,7 @@ module _ (sh : Shape) (log : Log) (tail : ℕ) (kept : Kept sh log tail) where
       now ws blank k q = clash true refl (cc)
 
   -- a commit record's reads are all hosted by the audit
-  hosted-reads : (p n : ℕ) (c : Claim) → p < tail → effect (log .entry p) ≡ tries n c → alone (ids sh) c ≡ true
+  pub hosted-reads : (p n : ℕ) (c : Claim) → p < tail → effect (log .entry p) ≡ tries n c → alone (ids sh) c ≡ true
   unfolding okEntry okReads
   hosted-reads p n c l e = go (log .entry p) (kept p l) e
     where
@@ -124,44 +124,56 @@ tail-small log e =
     let a : ltb (slots log) (log .tail) ≡ false = search ors in
     omega (arith, frame-few log e, ltb-false (slots log) (log .tail) a)
 
-module _ (sh : Shape) (shape : okShape sh ≡ true) (log : Log) (room : ℕ) (sound : Sound sh log room) where
+-- a play that goes on to the tail went on to every offset below
+pub goes-back : (sh : Shape) (log : Log) (room d : ℕ) → isGoing (auditPlay sh log room (log .tail)) ≡ true → d ≤ log .tail → isGoing (auditPlay sh log room d) ≡ true
+goes-back sh log room d e l = let s : d + (log .tail - d) ≡ log .tail = omega arith in going-back log (ids sh) room 0 [] d (log .tail - d) (rw s e)
+
+-- on a good log, whatever its decisions and checkpoints say
+module _ (sh : Shape) (shape : okShape sh ≡ true) (log : Log) (room : ℕ) (frame : badFrame log ≡ false) (good : lowestBad sh log ≡ none) where
   kept : Kept sh log (log .tail)
-  kept = good-kept sh log (sound .good)
+  kept = good-kept sh log good
 
   trusted : (q : ℕ) → q < log .tail → Trust log (ids sh) q
   trusted q l n c e w b h = clash (alone (ids sh) c) (hosted-reads sh log (log .tail) kept q n c l e) w
 
-  goes : (d : ℕ) → d ≤ log .tail → isGoing (auditPlay sh log room d) ≡ true
-  goes d l = let s : d + (log .tail - d) ≡ log .tail = omega arith in going-back log (ids sh) room 0 [] d (log .tail - d) (rw s (sound .ended))
+  -- the audit's play to d keeps its cells as the run has them, as far as it comes
+  pub audit-ok : (d : ℕ) → d ≤ log .tail → Ok sh shape log (ids sh) room d (auditPlay sh log room d)
+  audit-ok d l =
+      let s : 0 + d ≡ d = omega arith in
+      let few = tail-small log frame in
+      rw s at (play-ok sh shape log (ids sh) room 0 [] (start-shown sh log (ids sh)) d (omega arith) (λ q h. trusted q (omega arith)) (λ q h. placed sh log (log .tail) kept q (omega arith)))
 
   -- the audit's cells as played to d
-  pub audit-shows : (d : ℕ) → d ≤ log .tail → Shown sh (ids sh) (cellsIn (auditPlay sh log room d)) (run log d .cells)
-  audit-shows d l =
-      let s : 0 + d ≡ d = omega arith in
-      let few = tail-small log (sound .frame) in
-      go (auditPlay sh log room d) (goes d l)
-      (rw s at (play-ok sh shape log (ids sh) room 0 [] (start-shown sh log (ids sh)) d (omega arith) (λ q h. trusted q (omega arith)) (λ q h. placed sh log (log .tail) kept q (omega arith))))
+  pub played-shows : (d : ℕ) → d ≤ log .tail → isGoing (auditPlay sh log room d) ≡ true → Shown sh (ids sh) (cellsIn (auditPlay sh log room d)) (run log d .cells)
+  played-shows d l g = go (auditPlay sh log room d) g (audit-ok d l)
     where
       go : (x : Played) → isGoing x ≡ true → Ok sh shape log (ids sh) room d x → Shown sh (ids sh) (cellsIn x) (run log d .cells)
       go (going u) g i = i
       go (waits q u) g i = clash false g refl
       go (lacks q u) g i = clash false g refl
 
-  commits-same : (o : ℕ) → o < log .tail → commitsThere sh log room o ≡ commitsAt log o
-  commits-same o l = go (effect (log .entry o)) refl
+  pub commits-same : (o : ℕ) → o < log .tail → isGoing (auditPlay sh log room o) ≡ true → commitsThere sh log room o ≡ commitsAt log o
+  commits-same o l g = go (effect (log .entry o)) refl
     where
       go : (e : Effect) → effect (log .entry o) ≡ e
           → ifSome (commitIn e) false (λ c. commitsOver (lookup (cellsIn (auditPlay sh log room o))) (c .claim)) ≡ ifSome (commitIn e) false (λ c. current (run log o .cells) (c .claim .reads))
       go (writes ws) e = refl
       go (aside n ws) e = refl
-      go (tries n c) e = reads-same sh (ids sh) (c .reads) (cellsIn (auditPlay sh log room o)) (run log o .cells) (audit-shows o (omega arith)) (hosted-reads sh log (log .tail) kept o n c l e)
+      go (tries n c) e = reads-same sh (ids sh) (c .reads) (cellsIn (auditPlay sh log room o)) (run log o .cells) (played-shows o (omega arith) g) (hosted-reads sh log (log .tail) kept o n c l e)
       go inert e = refl
 
+-- a decision record names a commit record below it
+pub decision-below : (sh : Shape) (log : Log) (d o v : ℕ) → okEntry sh log d (decision o v) ≡ true → o < d
+unfolding okEntry
+decision-below sh log d o v k = let lt : ltb o d ≡ true = search ands in ltb-true o d lt
+
+module _ (sh : Shape) (shape : okShape sh ≡ true) (log : Log) (room : ℕ) (sound : Sound sh log room) where
+  pub audit-shows : (d : ℕ) → d ≤ log .tail → Shown sh (ids sh) (cellsIn (auditPlay sh log room d)) (run log d .cells)
+  audit-shows d l = played-shows sh shape log room (sound .frame) (sound .good) d l (goes-back sh log room d (sound .ended) l)
+
   pub decisions-true : TrueBelow log (log .tail)
-  unfolding okEntry
   decisions-true d l o v e =
-      let k : okEntry sh log d (decision o v) ≡ true = rw e at (kept d l) in
-      let lt : ltb o d ≡ true = search ands in
-      let s : o < log .tail = omega (arith, ltb-true o d lt) in
+      let k : okEntry sh log d (decision o v) ≡ true = rw e at (good-kept sh log (sound .good) d l) in
+      let s : o < log .tail = omega (arith, decision-below sh log d o v k) in
       let t : asPlayed sh log room d (decision o v) ≡ true = rw e at (sound .told d l) in
-      beq-true (eqb v 1) (commitsThere sh log room o) t ∙ commits-same o s
+      beq-true (eqb v 1) (commitsThere sh log room o) t ∙ commits-same sh shape log room (sound .frame) (sound .good) o s (goes-back sh log room o (sound .ended) (omega arith))

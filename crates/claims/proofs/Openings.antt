@@ -61,7 +61,7 @@ same-content none (some y) h = clash false h refl
 same-content (some x) none h = clash false h refl
 same-content (some x) (some y) h = ap some (eqb-true x y h)
 
-same-saved : (cs ds : List Saved) → sameSaved cs ds ≡ true → cs ≡ ds
+pub same-saved : (cs ds : List Saved) → sameSaved cs ds ≡ true → cs ≡ ds
 same-saved [] [] h = refl
 same-saved [] (d ∷ ds) h = clash false h refl
 same-saved (c ∷ cs) [] h = clash false h refl
@@ -97,7 +97,7 @@ module _ (o : ℕ) where
           (λ i j. eqb-false (c .key) (d .key) q (same-key o c.key x k j ∙ sym (same-key o d.key x k i))))
 
   -- the saved cells of the object read as the table's
-  lookup-saved : (cs : List Cell) (k : ℕ) → lookup (loaded o (savedOf o cs)) o k ≡ lookup cs o k
+  pub lookup-saved : (cs : List Cell) (k : ℕ) → lookup (loaded o (savedOf o cs)) o k ≡ lookup cs o k
   unfolding lookup savedOf
   lookup-saved [] k = refl
   lookup-saved (c ∷ cs) k = go (eqb c.object o) refl (lookup-saved cs k)
@@ -128,7 +128,7 @@ module _ (o : ℕ) where
       both (absent c.key d cs (ltb-true (c .key) (d .key) (first-leads savedBefore c (d ∷ cs) a)) r) (ascending-distinct (d ∷ cs) r)
 
   module _ (sh : Shape) (shape : okShape sh ≡ true) (p : ℕ) (few : p ≤ 131072) where
-    loaded-owned : (cs : List Saved) → all (okSaved sh p o) cs ≡ true → all (owned sh (o ∷ [])) (loaded o cs) ≡ true
+    pub loaded-owned : (cs : List Saved) → all (okSaved sh p o) cs ≡ true → all (owned sh (o ∷ [])) (loaded o cs) ≡ true
     unfolding okSaved owned isCell
     loaded-owned [] h = refl
     loaded-owned (c ∷ cs) h =
