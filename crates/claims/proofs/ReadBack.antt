@@ -17,7 +17,7 @@ use Rattle.lists.specs.Bytes.{beAt}
 use Rattle.lists.specs.Splice.{splice}
 use Rattle.model.specs.Objects.{Shape, okShape}
 use Rattle.model.specs.Entries.{Write, commit, Log, writesOf, writtenObjects, commitObjects, headerObjects, numberOf}
-use Rattle.model.specs.Slot.{markOf, itemBytes, itemCount, slotOf, slot, logIn}
+use Rattle.model.specs.Slot.{slotSize, markOf, itemBytes, itemCount, slotOf, slot, logIn}
 use Rattle.model.specs.Rules.{lowestBad}
 use Rattle.model.specs.Table.{Cell, cellsOf, savedOf}
 use Rattle.model.specs.Answers.{done, answer}
@@ -104,10 +104,10 @@ module _ (sh : Shape) (shape : okShape sh ≡ true) (l : Lent) (q : Request) (ta
   given : Allowed sh (inLog l) q
   given = accepts-exactly sh shape l q .0 taken .allowed
 
-  left : appendTo sh l q ≡ record { newTail = done (l .tail + 1); bytes = splice (l .bytes) (256 * l .tail) itsSlot }
+  left : appendTo sh l q ≡ record { newTail = done (l .tail + 1); bytes = splice (l .bytes) (slotSize * l .tail) itsSlot }
   left = wrote sh (l .bytes) (l .tail) q (passed sh (l .bytes) (l .tail) q taken)
 
-  pub left-bytes : after sh l q .bytes ≡ splice (l .bytes) (256 * l .tail) itsSlot
+  pub left-bytes : after sh l q .bytes ≡ splice (l .bytes) (slotSize * l .tail) itsSlot
   left-bytes = ap (λ a. a .bytes) left
 
   exit : Exit sh (l .bytes) (l .tail) q (l .tail + 1) (appendTo sh l q .bytes)
@@ -164,7 +164,7 @@ module _ (sh : Shape) (shape : okShape sh ≡ true) (l : Lent) (q : Request) (ta
     unfolding logIn
     written =
         slot-later (after sh l q .bytes) (now .bytes) (after sh l q .tail) (now .tail) (l .tail) (omega (arith, tail-after)) (up .tails) (up .same)
-        ∙ ap (λ (t : ℕ). slot (take (256 * t) (after sh l q .bytes)) (l .tail)) tail-after
+        ∙ ap (λ (t : ℕ). slot (take (slotSize * t) (after sh l q .bytes)) (l .tail)) tail-after
         ∙ exit .written
 
     pub info-left : entryCall sh (inLog now) (l .tail) ≡ done (infoIn itsSlot)
