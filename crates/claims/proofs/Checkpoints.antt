@@ -3,7 +3,7 @@
 use Prim.Native.Nat.{ℕ, _<_}
 use mathlib.Core.Path.{_≡_, refl, ap, ap₂, sym, _∙_}
 use mathlib.Core.Logic.{_↔_}
-use mathlib.Core.Bool.{Bool, true, false, cond}
+use mathlib.Core.Bool.{Bool, true, false}
 use mathlib.Core.List.{List, [], _∷_}
 use mathlib.Core.Option.{Option, none, some, Option·some-injective}
 use native.Mathlib.Omega.{arith}
@@ -11,7 +11,7 @@ use borrow.Author.Tests.{eqb-true, eqb-false, eq-eqb, ne-eqb, ltb-true, ltb-fals
 use lib.Dec.{eqb, ltb}
 use Rattle.lists.specs.Tests.{both}
 use Rattle.lists.specs.Sets.{ascending, first-leads, rest-ascends}
-use Rattle.model.specs.Entries.{Held, Saved}
+use Rattle.model.specs.Entries.{Saved}
 use Rattle.model.specs.Rules.{savedBefore}
 use Rattle.model.specs.Table.{Cell, lookup, savedOf}
 use Rattle.model.specs.Replica.{sameContent, sameSaved}
