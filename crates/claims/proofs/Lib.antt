@@ -3,6 +3,11 @@ pub mod Aborts
 pub mod ReadBack
 pub mod SameBytes
 pub mod KeepsGood
+pub mod Few
+pub mod Later
+pub mod Saved
+pub mod Words
+pub mod Accepts
 pub mod Counts
 pub mod Cells
 pub mod Runs
@@ -23,5 +28,6 @@ pub mod Replicas
 pub mod Demand3
 pub mod Across
 pub mod Outcomes
+pub mod Demand1
 pub mod Demand2
 pub mod Depots

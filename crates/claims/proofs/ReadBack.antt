@@ -1,49 +1,44 @@
--- What an accepted append wrote reads back as what was given: the slot at the old tail is the entry's `slotOf`, whose numbers,
--- header objects and items the laws of slots read back; and items that came as bytes, read and stored again, are those bytes.
-use mathlib.Core.Path.{_≡_, refl, ap, ap₂, _∙_}
+-- What an accepted append wrote reads back as what was given, also after later appends: the slot at the old tail is the entry's
+-- `slotOf`, which they keep, and whose numbers, header objects and items the laws of slots read back; and items that came as
+-- bytes, read and stored again, are those bytes.
+use mathlib.Core.Path.{_≡_, refl, ap, ap₂, sym, _∙_}
+use mathlib.Core.Logic.{_↔_}
 use mathlib.Core.Bool.{Bool, true, false, _||_}
-use mathlib.Core.List.{List, _++_}
+use mathlib.Core.List.{List, _++_, List·Memᴰ}
 use mathlib.Core.Option.{none}
-use Prim.Native.Nat.{ℕ, _+_, _*_, _%_, _≤_}
+use Prim.Native.Nat.{ℕ, _+_, _*_, _%_, _<_, _≤_}
 use native.Mathlib.Omega.{arith}
 use lib.ListN.{length, take, drop}
-use borrow.Author.Tests.{lt-leb, eqb-true, not-false}
+use borrow.Author.Tests.{lt-leb, lt-ltb, eqb-true, not-false}
 use Rattle.lists.specs.Tests.{ors}
+use Rattle.lists.specs.Sets.{mem, ascendingSet, mem-set}
+use Rattle.lists.specs.Members.{mem-map, map-mem}
 use Rattle.lists.specs.Rows.{map-values}
 use Rattle.lists.specs.Bytes.{beAt}
 use Rattle.lists.specs.Splice.{splice}
 use Rattle.model.specs.Objects.{Shape, okShape}
-use Rattle.model.specs.Entries.{Log, headerObjects}
-use Rattle.model.specs.Slot.{markOf, itemBytes, itemCount, slotOf, logIn, logOf}
+use Rattle.model.specs.Entries.{Write, Claim, commit, Log, writesOf, writtenObjects, commitObjects, headerObjects, numberOf}
+use Rattle.model.specs.Slot.{markOf, itemBytes, itemCount, slotOf, slot, logIn}
+use Rattle.model.specs.Rules.{lowestBad}
+use Rattle.model.specs.Table.{Cell, cellsOf, savedOf}
 use Rattle.model.specs.Answers.{done, refuse, answer, frameAndEntries}
 use Rattle.model.specs.Reading.{Header, headerAt, kindIn, infoIn, entryRefusal, entryCall, stretch, orEmpty, itemList}
 use Rattle.model.specs.Append.{Request, update, commits, decides, saves, writesGiven, entryOf, notWhole, ownTests, appendRefusal}
-use Rattle.model.specs.Histories.{Lent, inLog, tailAfter, appendTo, after, Accepted}
-use Rattle.model.specs.Claims.{Bytes, givenItems, kindGiven, infoBack, itemsBack, headerObjectsIn, Back, ReadsBack}
+use Rattle.model.specs.Histories.{Lent, inLog, tailAfter, appendTo, after, Accepted, grown}
+use Rattle.model.specs.Conditions.{SetAside}
+use Rattle.model.specs.Claims.{WroteOneSlot, WritesOneSlot, kindGiven, NumberGiven, ObjectsGiven, ItemsGiven, headerObjectsIn, Back, ReadsBack}
 use Rattle.laws.specs.Headers.{objectsIn}
 use Rattle.laws.proofs.Slots.{Kept, headers-few, number-fits, items-few, slot-mark, slot-count, slot-number, slot-items}
 use Rattle.laws.proofs.Stored.{given-writes, given-reads, update-items}
-use Rattle.laws.proofs.Headers.{headers-small, objects-read}
+use Rattle.laws.proofs.Headers.{headers-small, headers-ascend, objects-read}
 use Rattle.laws.proofs.Refusals.{AllPass, all-pass, refuse-none}
-use Rattle.laws.proofs.Appends.{Accepted as Exit, accepted, good-kept, passed, wrote}
-use Rattle.laws.proofs.ByKind.{update-mark}
-
--- ---- what was given
-
--- the first test of updates and commits passed
-whole-items : (items : List ℕ) (a b : Bool) → refuse 3 (notWhole items || a || b) ≡ none → length items % 16 ≡ 0
-whole-items items a b e =
-    let h : (notWhole items || a || b) ≡ false = refuse-none 3 (notWhole items || a || b) e in
-    eqb-true (length items % 16) 0 (not-false _ (search ors))
-
--- the bytes of the entry's items are the items given
-same-items : (sh : Shape) (log : Log) (q : Request) → AllPass (ownTests sh log q) → Bytes (givenItems q) → itemBytes (entryOf q) ≡ givenItems q
-unfolding ownTests entryOf itemBytes
-same-items sh log (update n items) h bytes =
-    update-items n (writesGiven items) ∙ given-writes items bytes (whole-items items _ _ (h .0))
-same-items sh log (commits n items) h bytes = given-reads items bytes (whole-items items _ _ (h .0))
-same-items sh log (decides o v) h bytes = refl
-same-items sh log (saves r table o) h bytes = refl
+use Rattle.laws.proofs.Appends.{Accepted as Exit, saved-ascends, accepted, good-kept, passed, wrote}
+use Rattle.laws.proofs.ByKind.{update-mark, update-number, update-objects}
+use Rattle.claims.proofs.Conditions.{writes-aside, aside-writes}
+use Rattle.claims.proofs.KeepsGood.{grown-good}
+use Rattle.claims.proofs.Later.{Later, grown-later, slot-later}
+use Rattle.claims.proofs.Saved.{saved-for}
+use Rattle.claims.proofs.Accepts.{decision-words}
 
 -- ---- the kind
 
@@ -60,6 +55,57 @@ objects-told : (s : List ℕ) → headerObjectsIn (infoIn s) ≡ objectsIn s
 unfolding infoIn objectsIn
 objects-told s = map-values (λ (x : Header). x .object) (λ i. headerAt s (8 + 12 * i)) 0 (beAt 1 s 2)
 
+-- ---- what was given
+
+-- the first test of updates and commits passed
+whole-items : (items : List ℕ) (a b : Bool) → refuse 3 (notWhole items || a || b) ≡ none → length items % 16 ≡ 0
+whole-items items a b e =
+    let h : (notWhole items || a || b) ≡ false = refuse-none 3 (notWhole items || a || b) e in
+    eqb-true (length items % 16) 0 (not-false _ (search ors))
+
+-- the bytes of the entry's items
+items-given : (sh : Shape) (log : Log) (q : Request) → AllPass (ownTests sh log q) → ItemsGiven q (itemBytes (entryOf q))
+unfolding ownTests entryOf itemBytes
+items-given sh log (update n items) t = λ bytes. update-items n (writesGiven items) ∙ given-writes items bytes (whole-items items _ _ (t .0))
+items-given sh log (commits n items) t = λ bytes. given-reads items bytes (whole-items items _ _ (t .0))
+items-given sh log (decides o v) t = refl
+items-given sh log (saves r table o) t =
+    let cells : List Cell = cellsOf table (r .count) in
+    record { cells = savedOf o cells; stored = refl; ascend = saved-ascends o cells; holds = saved-for o cells }
+
+-- the commit record that a decision names, and what it tells of it
+decided-commit : (sh : Shape) (log : Log) (o v : ℕ) → AllPass (ownTests sh log (decides o v)) → (o < log .tail) × ((n : ℕ) × (c : Claim) × (log .entry o ≡ commit n c))
+decided-commit sh log o v t = let a = decision-words sh log o v t in (a .below, a .commits)
+
+number-given : (sh : Shape) (log : Log) (q : Request) → AllPass (ownTests sh log q) → NumberGiven log q (numberOf log (log .tail) (entryOf q))
+unfolding entryOf numberOf
+number-given sh log (update n items) t = update-number n (writesGiven items) log (log .tail)
+number-given sh log (commits n items) t = refl
+number-given sh log (decides o v) t =
+    let (below, (n, c, e)) = decided-commit sh log o v t in
+    (c, e ∙ ap (λ (m : ℕ). commit m c) (rw (lt-ltb o (log .tail) below, e)))
+number-given sh log (saves r table o) t = refl
+
+-- the objects of writes, as a set
+module _ (ws : List Write) (Made : Write → Type 0) (of : (w : Write) → List·Memᴰ w ws ↔ Made w) where
+  written-words : (x : ℕ) → (mem x (ascendingSet (writtenObjects ws)) ≡ true) ↔ ((w : Write) × Made w × (w .object ≡ x))
+  written-words x = (
+    λ h. let (w, m, e) = mem-map (λ (w : Write). w .object) x ws (sym (mem-set x (writtenObjects ws)) ∙ h) in (w, of w .0 m, e),
+    λ (w, m, e). mem-set x (writtenObjects ws) ∙ map-mem (λ (w : Write). w .object) x w ws (of w .1 m) e,
+  )
+
+commit-words : (log : Log) (n p x : ℕ) → (mem x (commitObjects log p n) ≡ true) ↔ ((w : Write) × SetAside log n p w × (w .object ≡ x))
+commit-words log n p = written-words (writesOf log n p) (SetAside log n p) (λ w. (writes-aside log n p w, aside-writes log n p w))
+
+objects-given : (sh : Shape) (log : Log) (q : Request) → AllPass (ownTests sh log q) → ObjectsGiven log q (headerObjects log (log .tail) (entryOf q))
+unfolding entryOf headerObjects
+objects-given sh log (update n items) t =
+    let ws : List Write = writesGiven items in
+    rw (update-objects n ws log (log .tail)) (written-words ws (λ w. List·Memᴰ w ws) (λ w. (λ m. m, λ m. m)))
+objects-given sh log (commits n items) t = commit-words log n (log .tail)
+objects-given sh log (decides o v) t = λ n c e. rw (lt-ltb o (log .tail) (decided-commit sh log o v t .0), e) (commit-words log n o)
+objects-given sh log (saves r table o) t = refl
+
 -- ---- what an accepted append left
 
 module _ (sh : Shape) (shape : okShape sh ≡ true) (l : Lent) (q : Request) (taken : Accepted sh l q) where
@@ -70,7 +116,7 @@ module _ (sh : Shape) (shape : okShape sh ≡ true) (l : Lent) (q : Request) (ta
   passes : appendRefusal sh (inLog l) q ≡ none
   passes = passed sh (l .bytes) (l .tail) q taken
 
-  own-tests : AllPass (ownTests sh (inLog l) q)
+  pub own-tests : AllPass (ownTests sh (inLog l) q)
   own-tests = all-pass (frameAndEntries sh (inLog l) ++ ownTests sh (inLog l) q) passes .1 .1
 
   left : appendTo sh l q ≡ record { newTail = done (l .tail + 1); bytes = splice (l .bytes) (256 * l .tail) itsSlot }
@@ -82,6 +128,9 @@ module _ (sh : Shape) (shape : okShape sh ≡ true) (l : Lent) (q : Request) (ta
   exit : Exit sh (l .bytes) (l .tail) q (l .tail + 1) (appendTo sh l q .bytes)
   exit = accepted sh (l .bytes) (l .tail) q (l .tail + 1) shape (ap (λ a. a .newTail) left)
 
+  pub one-slot : WroteOneSlot sh l q
+  one-slot = record { answers = ap (λ a. a .newTail) left; size = exit .size; front = exit .front; rest = exit .rest }
+
   kept : Kept sh (inLog l) (l .tail)
   unfolding logIn
   kept = good-kept sh (inLog l) (exit .was-good)
@@ -92,37 +141,72 @@ module _ (sh : Shape) (shape : okShape sh ≡ true) (l : Lent) (q : Request) (ta
   few-items : itemCount (entryOf q) ≤ 12
   few-items = items-few sh (inLog l) shape (l .tail) (entryOf q) (exit .obeyed)
 
-  -- the calls on the log that was left
+  -- ---- the slot, as the calls tell it
 
-  new-log : inLog (after sh l q) ≡ logOf (appendTo sh l q .bytes) (l .tail + 1)
-  new-log = ap (λ a. logOf (appendTo sh l q .bytes) (tailAfter (l .tail) (a .newTail))) left
-
-  nothing-refuses : entryRefusal sh (logOf (appendTo sh l q .bytes) (l .tail + 1)) (l .tail) ≡ none
-  unfolding logIn
-  nothing-refuses = rw (exit .frame, exit .good, lt-leb (l .tail + 1) (l .tail) (omega arith))
-
-  pub info-left : infoBack sh l q ≡ done (infoIn itsSlot)
-  unfolding entryCall logIn
-  info-left = ap (λ log. entryCall sh log (l .tail)) new-log ∙ ap₂ answer nothing-refuses (ap infoIn (exit .written))
-
-  pub items-left : itemsBack sh l q ≡ itemBytes (entryOf q)
-  unfolding itemList logIn
-  items-left =
-      ap (λ log. itemList sh log (l .tail)) new-log
-      ∙ ap₂ orEmpty nothing-refuses (ap stretch (exit .written))
-      ∙ ap (λ (n : ℕ). take (16 * n) (drop 56 itsSlot)) (slot-count (inLog l) (l .tail) (entryOf q) few-items)
-      ∙ slot-items (inLog l) (l .tail) (entryOf q) few-headers
-
-  read-back : Back sh l q
+  pub kind-is : infoIn itsSlot .kind ≡ kindGiven q
   unfolding infoIn
-  read-back = record {
-    info = infoIn itsSlot;
-    reads = info-left;
-    kind = kind-marked itsSlot q (slot-mark (inLog l) (l .tail) (entryOf q));
-    number = slot-number (inLog l) (l .tail) (entryOf q) (number-fits sh (inLog l) shape (l .tail) (entryOf q) kept (exit .obeyed));
-    objects = objects-told itsSlot ∙ objects-read (inLog l) (l .tail) (entryOf q) few-headers (headers-small sh shape (inLog l) (l .tail) (entryOf q) kept (exit .obeyed));
-    items = λ bytes. items-left ∙ same-items sh (inLog l) q own-tests bytes;
-  }
+  kind-is = kind-marked itsSlot q (slot-mark (inLog l) (l .tail) (entryOf q))
+
+  pub number-is : infoIn itsSlot .number ≡ numberOf (inLog l) (l .tail) (entryOf q)
+  unfolding infoIn
+  number-is = slot-number (inLog l) (l .tail) (entryOf q) (number-fits sh (inLog l) shape (l .tail) (entryOf q) kept (exit .obeyed))
+
+  pub objects-are : headerObjectsIn (infoIn itsSlot) ≡ headerObjects (inLog l) (l .tail) (entryOf q)
+  objects-are =
+      objects-told itsSlot
+      ∙ objects-read (inLog l) (l .tail) (entryOf q) few-headers (headers-small sh shape (inLog l) (l .tail) (entryOf q) kept (exit .obeyed))
+
+  -- ---- the calls, some appends later
+
+  module _ (later : List Request) where
+    abbrev now : Lent
+    now = grown sh (after sh l q) later
+
+    tail-after : after sh l q .tail ≡ l .tail + 1
+    tail-after = ap (λ a. tailAfter (l .tail) (a .newTail)) left
+
+    up : Later (after sh l q) now
+    up = grown-later sh shape (after sh l q) later (rw tail-after (exit .frame))
+
+    good : lowestBad sh (inLog now) ≡ none
+    good = grown-good sh shape (after sh l q) later (rw tail-after (exit .good))
+
+    nothing-refuses : entryRefusal sh (inLog now) (l .tail) ≡ none
+    unfolding logIn
+    nothing-refuses = rw (up .frame, good, lt-leb (now .tail) (l .tail) (omega (arith, tail-after, up .tails)))
+
+    written : slot (inLog now .used) (l .tail) ≡ itsSlot
+    unfolding logIn
+    written =
+        slot-later (after sh l q .bytes) (now .bytes) (after sh l q .tail) (now .tail) (l .tail) (omega (arith, tail-after)) (up .tails) (up .same)
+        ∙ ap (λ (t : ℕ). slot (take (256 * t) (after sh l q .bytes)) (l .tail)) tail-after
+        ∙ exit .written
+
+    pub info-left : entryCall sh (inLog now) (l .tail) ≡ done (infoIn itsSlot)
+    unfolding entryCall
+    info-left = ap₂ answer nothing-refuses (ap infoIn written)
+
+    pub items-left : itemList sh (inLog now) (l .tail) ≡ itemBytes (entryOf q)
+    unfolding itemList
+    items-left =
+        ap₂ orEmpty nothing-refuses (ap stretch written)
+        ∙ ap (λ (n : ℕ). take (16 * n) (drop 56 itsSlot)) (slot-count (inLog l) (l .tail) (entryOf q) few-items)
+        ∙ slot-items (inLog l) (l .tail) (entryOf q) few-headers
+
+    read-back : Back sh l q now
+    unfolding logIn
+    read-back = record {
+      info = infoIn itsSlot;
+      reads = info-left;
+      kind = kind-is;
+      number = rw number-is (number-given sh (inLog l) q own-tests);
+      objects = rw objects-are (objects-given sh (inLog l) q own-tests);
+      ascend = rw objects-are (headers-ascend (inLog l) (l .tail) (entryOf q));
+      items = rw items-left (items-given sh (inLog l) q own-tests);
+    }
 
 pub reads-back : (sh : Shape) → okShape sh ≡ true → ReadsBack sh
-reads-back sh shape l q taken = read-back sh shape l q taken
+reads-back sh shape l q taken later = read-back sh shape l q taken later
+
+pub writes-one-slot : (sh : Shape) → okShape sh ≡ true → WritesOneSlot sh
+writes-one-slot sh shape l q taken = one-slot sh shape l q taken

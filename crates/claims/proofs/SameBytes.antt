@@ -2,6 +2,7 @@
 -- slot is made of the mark, the header objects, the number of items, the number and the item bytes, which is what is read.
 use mathlib.Core.Path.{_≡_, refl, ap, sym, _∙_}
 use mathlib.Core.Bool.{true, cond}
+use mathlib.Core.List.{[]}
 use Prim.Native.Nat.{ℕ, _*_}
 use native.Mathlib.Omega.{arith}
 use lib.Dec.{eqb}
@@ -11,13 +12,13 @@ use Rattle.model.specs.Objects.{Shape, okShape}
 use Rattle.model.specs.Entries.{Entry, Log, headerObjects, numberOf}
 use Rattle.model.specs.Slot.{markUpdate, markCommit, markDecision, markCheckpoint, markOf, itemBytes, itemCount, slotOf}
 use Rattle.model.specs.Answers.{Answer, done, refused}
-use Rattle.model.specs.Reading.{Info}
+use Rattle.model.specs.Reading.{Info, infoIn, entryCall, itemList}
 use Rattle.model.specs.Append.{Request, update, commits, decides, saves, writesGiven, entryOf}
-use Rattle.model.specs.Histories.{Lent, inLog, Accepted}
-use Rattle.model.specs.Claims.{kindGiven, infoBack, headerObjectsIn, Back, SameBytes}
+use Rattle.model.specs.Histories.{Lent, inLog, Accepted, after, grown}
+use Rattle.model.specs.Claims.{kindGiven, headerObjectsIn, SameBytes}
 use Rattle.laws.proofs.Slots.{length-items}
 use Rattle.laws.proofs.ByKind.{update-mark}
-use Rattle.claims.proofs.ReadBack.{left-bytes, items-left, reads-back}
+use Rattle.claims.proofs.ReadBack.{itsSlot, left-bytes, kind-is, number-is, objects-are, info-left, items-left}
 
 -- ---- what makes a slot
 
@@ -41,27 +42,30 @@ kind-mark (commits n items) = refl
 kind-mark (decides o v) = refl
 kind-mark (saves r table o) = refl
 
--- ---- what the entry call told
+-- ---- what the calls told
 
 abbrev told : Info → Answer Info → Info
 told i (done j) = j
 told i (refused r) = i
 
-module _ (sh : Shape) (shape : okShape sh ≡ true) (l : Lent) (q : Request) (taken : Accepted sh l q) (i : Info) (e : infoBack sh l q ≡ done i) where
-  back : Back sh l q
-  back = reads-back sh shape l q taken
+module _ (sh : Shape) (shape : okShape sh ≡ true) (l : Lent) (q : Request) (taken : Accepted sh l q) where
+  items-told : itemList sh (inLog (after sh l q)) (l .tail) ≡ itemBytes (entryOf q)
+  unfolding grown
+  items-told = items-left sh shape l q taken []
 
-  same-info : i ≡ back .info
-  same-info = ap (told i) (sym e ∙ back .reads)
+  module _ (i : Info) (e : entryCall sh (inLog (after sh l q)) (l .tail) ≡ done i) where
+    same-info : i ≡ infoIn (itsSlot sh shape l q taken)
+    unfolding grown
+    same-info = ap (told i) (sym e ∙ info-left sh shape l q taken [])
 
-  mark-told : markOf (entryOf q) ≡ markOfKind (i .kind)
-  mark-told = kind-mark q ∙ ap markOfKind (sym (back .kind) ∙ ap (λ j. j .kind) (sym same-info))
+    mark-told : markOf (entryOf q) ≡ markOfKind (i .kind)
+    mark-told = kind-mark q ∙ ap markOfKind (sym (kind-is sh shape l q taken) ∙ ap (λ j. j .kind) (sym same-info))
 
-  number-told : numberOf (inLog l) (l .tail) (entryOf q) ≡ i .number
-  number-told = sym (back .number) ∙ ap (λ j. j .number) (sym same-info)
+    number-told : numberOf (inLog l) (l .tail) (entryOf q) ≡ i .number
+    number-told = sym (number-is sh shape l q taken) ∙ ap (λ j. j .number) (sym same-info)
 
-  objects-told : headerObjects (inLog l) (l .tail) (entryOf q) ≡ headerObjectsIn i
-  objects-told = sym (back .objects) ∙ ap headerObjectsIn (sym same-info)
+    objects-told : headerObjects (inLog l) (l .tail) (entryOf q) ≡ headerObjectsIn i
+    objects-told = sym (objects-are sh shape l q taken) ∙ ap headerObjectsIn (sym same-info)
 
 pub same-bytes : (sh : Shape) → okShape sh ≡ true → SameBytes sh
 same-bytes sh shape l q q′ i i′ taken taken′ e e′ kind number objects items =
@@ -71,5 +75,5 @@ same-bytes sh shape l q q′ i i′ taken taken′ e e′ kind number objects it
     (mark-told sh shape l q taken i e ∙ ap markOfKind kind ∙ sym (mark-told sh shape l q′ taken′ i′ e′))
     (number-told sh shape l q taken i e ∙ number ∙ sym (number-told sh shape l q′ taken′ i′ e′))
     (objects-told sh shape l q taken i e ∙ objects ∙ sym (objects-told sh shape l q′ taken′ i′ e′))
-    (sym (items-left sh shape l q taken) ∙ items ∙ items-left sh shape l q′ taken′))
+    (sym (items-told sh shape l q taken) ∙ items ∙ items-told sh shape l q′ taken′))
     ∙ sym (left-bytes sh shape l q′ taken′)
