@@ -18,18 +18,8 @@ use Rattle.model.specs.Replica.{sameContent, sameSaved}
 use Rattle.model.specs.Conditions.{savedFor}
 use Rattle.laws.proofs.Refusals.{not-none}
 use Rattle.laws.proofs.Appends.{saved-ascends}
-use Rattle.claims.proofs.Cells.{held-cell}
-use Rattle.claims.proofs.Openings.{same-saved, loaded, lookup-saved}
-
--- ---- what a table's cells say of a key, saved
-
-saved-for : (o : ℕ) (cs : List Saved) (k : ℕ) → lookup (loaded o cs) o k ≡ savedFor cs k
-unfolding lookup
-saved-for o [] k = refl
-saved-for o (c ∷ cs) k = rw (eq-eqb o o refl, held-cell o (c .key) (c .held), saved-for o cs k)
-
-pub saved-reads : (o : ℕ) (cs : List Cell) (k : ℕ) → savedFor (savedOf o cs) k ≡ lookup cs o k
-saved-reads o cs k = sym (saved-for o (savedOf o cs) k) ∙ lookup-saved o cs k
+use Rattle.claims.proofs.Saved.{saved-for}
+use Rattle.claims.proofs.Openings.{same-saved}
 
 -- ---- lists that say the same
 
@@ -101,6 +91,6 @@ saved-same (c ∷ cs) =
 pub same-said : (o : ℕ) (cs : List Saved) (table : List Cell) → Ascends cs
     → (sameSaved cs (savedOf o table) ≡ true) ↔ ((k : ℕ) → savedFor cs k ≡ lookup table o k)
 same-said o cs table a = (
-  λ e k. ap (λ y. savedFor y k) (same-saved cs (savedOf o table) e) ∙ saved-reads o table k,
-  λ h. ap (sameSaved cs) (sym (saved-known cs (savedOf o table) a (saved-ascends o table) (λ k. h k ∙ sym (saved-reads o table k)))) ∙ saved-same cs,
+  λ e k. ap (λ y. savedFor y k) (same-saved cs (savedOf o table) e) ∙ saved-for o table k,
+  λ h. ap (sameSaved cs) (sym (saved-known cs (savedOf o table) a (saved-ascends o table) (λ k. h k ∙ sym (saved-for o table k)))) ∙ saved-same cs,
 )
