@@ -91,18 +91,18 @@ told (done a) = 0
 told (refused r) = ifSome (r .offset) 0 (λ o. o)
 
 data Verdict (sh : Shape) (h : History) (scratch : List ℕ) (out : Left) : Type 0 where
-  passed : out .answer ≡ done tt → HasRoom sh h scratch → ((d : ℕ) → d < wholeLog sh h .tail → Agrees sh h d) → Verdict sh h scratch out
-  found : (d : ℕ) → out .answer ≡ tellingOf 11 d → HasRoom sh h scratch → d < wholeLog sh h .tail → (Agrees sh h d → ⊥) → ((e : ℕ) → e < d → Agrees sh h e)
+  passed : out .answer ≡ done tt → HasRoom sh (wholeLog sh h) (ranTo sh h) scratch → ((d : ℕ) → d < wholeLog sh h .tail → Agrees (wholeLog sh h) (ranTo sh h) d) → Verdict sh h scratch out
+  found : (d : ℕ) → out .answer ≡ tellingOf 11 d → HasRoom sh (wholeLog sh h) (ranTo sh h) scratch → d < wholeLog sh h .tail → (Agrees (wholeLog sh h) (ranTo sh h) d → ⊥) → ((e : ℕ) → e < d → Agrees (wholeLog sh h) (ranTo sh h) e)
       → Verdict sh h scratch out
-  full : (q : ℕ) → out .answer ≡ tellingOf 13 q → q < wholeLog sh h .tail → writtenBy sh h q ≤ capacity scratch → capacity scratch < writtenBy sh h (q + 1)
+  full : (q : ℕ) → out .answer ≡ tellingOf 13 q → q < wholeLog sh h .tail → writtenBy sh (ranTo sh h) q ≤ capacity scratch → capacity scratch < writtenBy sh (ranTo sh h) (q + 1)
       → Verdict sh h scratch out
 
 -- how the audit leaves record and table where there was room
 record Standing (sh : Shape) (h : History) (scratch : List ℕ) (out : Left) : Type 0 where
-  stands : HasRoom sh h scratch → out .replica .position ≡ wholeLog sh h .tail
-  shows : HasRoom sh h scratch → (o k : ℕ) → isCell sh o k ≡ true
+  stands : HasRoom sh (wholeLog sh h) (ranTo sh h) scratch → out .replica .position ≡ wholeLog sh h .tail
+  shows : HasRoom sh (wholeLog sh h) (ranTo sh h) scratch → (o k : ℕ) → isCell sh o k ≡ true
       → readCell sh (out .replica) (out .table) o k ≡ done (ranTo sh h (wholeLog sh h .tail) .cells o k)
-  counts : HasRoom sh h scratch → out .replica .count ≡ writtenBy sh h (wholeLog sh h .tail)
+  counts : HasRoom sh (wholeLog sh h) (ranTo sh h) scratch → out .replica .count ≡ writtenBy sh (ranTo sh h) (wholeLog sh h .tail)
 
 module _ (sh : Shape) (shape : okShape sh ≡ true) (h : History) (scratch : List ℕ) where
   abbrev log : Log
@@ -115,11 +115,11 @@ module _ (sh : Shape) (shape : okShape sh ≡ true) (h : History) (scratch : Lis
   unfolding logIn
   same p l = run-at sh shape h p l
 
-  grows : (p q : ℕ) → p ≤ q → q ≤ log .tail → writtenBy sh h p ≤ writtenBy sh h q
+  grows : (p q : ℕ) → p ≤ q → q ≤ log .tail → writtenBy sh (ranTo sh h) p ≤ writtenBy sh (ranTo sh h) q
   grows p q l m = rw (same p (omega arith), same q m) (written-grows (sh .objects) (ids sh) log p q l)
 
   -- an entry without room, and room to the tail
-  no-room : {P : Type 0} (q : ℕ) → q < wholeLog sh h .tail → room < writtenBy sh h (q + 1) → HasRoom sh h scratch → P
+  no-room : {P : Type 0} (q : ℕ) → q < wholeLog sh h .tail → room < writtenBy sh (ranTo sh h) (q + 1) → HasRoom sh (wholeLog sh h) (ranTo sh h) scratch → P
   unfolding logIn
   no-room q l m r = absurd (omega (arith, grows (q + 1) (wholeLog sh h .tail) (omega arith) (omega arith)))
 
@@ -129,13 +129,13 @@ module _ (sh : Shape) (shape : okShape sh ≡ true) (h : History) (scratch : Lis
     clashing : {P : Type 0} (n d : ℕ) → out .answer ≡ tellingOf n d → out .answer ≡ done tt → P
     clashing n d a e = clash true refl (ap isRefused (sym a ∙ e))
 
-    passes : Verdict sh h scratch out → (out .answer ≡ done tt) ↔ (HasRoom sh h scratch × ((d : ℕ) → d < wholeLog sh h .tail → Agrees sh h d))
+    passes : Verdict sh h scratch out → (out .answer ≡ done tt) ↔ (HasRoom sh (wholeLog sh h) (ranTo sh h) scratch × ((d : ℕ) → d < wholeLog sh h .tail → Agrees (wholeLog sh h) (ranTo sh h) d))
     passes (passed a r g) = (λ e. (r, g), λ x. a)
     passes (found d a r l n b) = (λ e. clashing 11 d a e, λ x. absurd (n (x .1 d l)))
     passes (full q a l w m) = (λ e. clashing 13 q a e, λ x. no-room q l m (x .0))
 
     -- two lowest ones are one
-    lowest-one : (d e : ℕ) → (Agrees sh h d → ⊥) → ((x : ℕ) → x < d → Agrees sh h x) → (Agrees sh h e → ⊥) → ((x : ℕ) → x < e → Agrees sh h x) → d ≡ e
+    lowest-one : (d e : ℕ) → (Agrees (wholeLog sh h) (ranTo sh h) d → ⊥) → ((x : ℕ) → x < d → Agrees (wholeLog sh h) (ranTo sh h) x) → (Agrees (wholeLog sh h) (ranTo sh h) e → ⊥) → ((x : ℕ) → x < e → Agrees (wholeLog sh h) (ranTo sh h) x) → d ≡ e
     lowest-one d e n b m c = go (ltb d e) (ltb e d) refl refl
       where
         go : (x y : Bool) → ltb d e ≡ x → ltb e d ≡ y → d ≡ e
@@ -144,16 +144,16 @@ module _ (sh : Shape) (shape : okShape sh ≡ true) (h : History) (scratch : Lis
         go false false p q = omega (arith, ltb-false d e p, ltb-false e d q)
 
     tells : Verdict sh h scratch out → (d : ℕ) → (out .answer ≡ tellingOf 11 d)
-        ↔ (HasRoom sh h scratch × (d < wholeLog sh h .tail) × (Agrees sh h d → ⊥) × ((e : ℕ) → e < d → Agrees sh h e))
+        ↔ (HasRoom sh (wholeLog sh h) (ranTo sh h) scratch × (d < wholeLog sh h .tail) × (Agrees (wholeLog sh h) (ranTo sh h) d → ⊥) × ((e : ℕ) → e < d → Agrees (wholeLog sh h) (ranTo sh h) e))
     tells (passed a r g) d = (λ e. clashing 11 d e a, λ x. absurd (x .2 (g d (x .1))))
     tells (found c a r l n b) d = (
-      λ e. let i : c ≡ d = ap told (sym a ∙ e) in subst (λ (y : ℕ). HasRoom sh h scratch × (y < wholeLog sh h .tail) × (Agrees sh h y → ⊥) × ((e : ℕ) → e < y → Agrees sh h e)) i (r, l, n, b),
+      λ e. let i : c ≡ d = ap told (sym a ∙ e) in subst (λ (y : ℕ). HasRoom sh (wholeLog sh h) (ranTo sh h) scratch × (y < wholeLog sh h .tail) × (Agrees (wholeLog sh h) (ranTo sh h) y → ⊥) × ((e : ℕ) → e < y → Agrees (wholeLog sh h) (ranTo sh h) e)) i (r, l, n, b),
       λ x. a ∙ ap (tellingOf 11) (lowest-one c d n b (x .2) (x .3)),
     )
     tells (full q a l w m) d = (λ e. absurd (let n : _≡_ {A = ℕ} 13 11 = ap code (sym a ∙ e) in omega arith), λ x. no-room q l m (x .0))
 
     -- two first ones are one
-    first-one : (q p : ℕ) → q < wholeLog sh h .tail → room < writtenBy sh h (q + 1) → p < wholeLog sh h .tail → writtenBy sh h p ≤ room → p ≤ q
+    first-one : (q p : ℕ) → q < wholeLog sh h .tail → room < writtenBy sh (ranTo sh h) (q + 1) → p < wholeLog sh h .tail → writtenBy sh (ranTo sh h) p ≤ room → p ≤ q
     unfolding logIn
     first-one q p l m k w = go (ltb q p) refl
       where
@@ -162,11 +162,11 @@ module _ (sh : Shape) (shape : okShape sh ≡ true) (h : History) (scratch : Lis
         go false e = ltb-false q p e
 
     lacking : Verdict sh h scratch out → (q : ℕ) → (out .answer ≡ tellingOf 13 q)
-        ↔ ((q < wholeLog sh h .tail) × (writtenBy sh h q ≤ room) × (room < writtenBy sh h (q + 1)))
+        ↔ ((q < wholeLog sh h .tail) × (writtenBy sh (ranTo sh h) q ≤ room) × (room < writtenBy sh (ranTo sh h) (q + 1)))
     lacking (passed a r g) q = (λ e. clashing 13 q e a, λ x. no-room q (x .0) (x .2) r)
     lacking (found d a r l n b) q = (λ e. absurd (let n : _≡_ {A = ℕ} 11 13 = ap code (sym a ∙ e) in omega arith), λ x. no-room q (x .0) (x .2) r)
     lacking (full p a l w m) q = (
-      λ e. let i : p ≡ q = ap told (sym a ∙ e) in subst (λ (y : ℕ). (y < wholeLog sh h .tail) × (writtenBy sh h y ≤ room) × (room < writtenBy sh h (y + 1))) i (l, w, m),
+      λ e. let i : p ≡ q = ap told (sym a ∙ e) in subst (λ (y : ℕ). (y < wholeLog sh h .tail) × (writtenBy sh (ranTo sh h) y ≤ room) × (room < writtenBy sh (ranTo sh h) (y + 1))) i (l, w, m),
       λ x. let i : p ≡ q = omega (arith, first-one p q l m (x .0) (x .1), first-one q p (x .0) (x .2) l w) in a ∙ ap (tellingOf 13) i,
     )
 
@@ -187,7 +187,7 @@ module _ (sh : Shape) (shape : okShape sh ≡ true) (h : History) (scratch : Lis
       obeys : (d o v : ℕ) → d < log .tail → log .entry d ≡ decision o v → okEntry sh log d (decision o v) ≡ true
       obeys d o v l e = rw e at (good-kept sh log good d l)
 
-      told-agrees : (d : ℕ) → d < log .tail → asPlayed sh log room d (log .entry d) ≡ true → Agrees sh h d
+      told-agrees : (d : ℕ) → d < log .tail → asPlayed sh log room d (log .entry d) ≡ true → Agrees (wholeLog sh h) (ranTo sh h) d
       told-agrees d l t = record {
         decisions = λ o v n c e i.
             let b = decision-below sh log d o v (obeys d o v l e) in
@@ -195,7 +195,7 @@ module _ (sh : Shape) (shape : okShape sh ≡ true) (h : History) (scratch : Lis
         checkpoints = λ o cs e k. rw (same d (omega arith)) (checkpoint-judged sh shape log room frame good ended d o cs l e .0 (rw e at t) k);
       }
 
-      agrees-told : (d : ℕ) → d < log .tail → Agrees sh h d → asPlayed sh log room d (log .entry d) ≡ true
+      agrees-told : (d : ℕ) → d < log .tail → Agrees (wholeLog sh h) (ranTo sh h) d → asPlayed sh log room d (log .entry d) ≡ true
       unfolding okEntry
       agrees-told d l a = go (log .entry d) refl
         where
@@ -221,7 +221,7 @@ module _ (sh : Shape) (shape : okShape sh ≡ true) (h : History) (scratch : Lis
     fits = play-fits log (ids sh) room 0 [] (log .tail) (omega arith)
 
     -- with room the cells are those at the tail
-    cells-all : (cs : List Cell) → Shown sh (ids sh) cs (run log (log .tail) .cells) → length cs ≡ writtenBy sh h (log .tail)
+    cells-all : (cs : List Cell) → Shown sh (ids sh) cs (run log (log .tail) .cells) → length cs ≡ writtenBy sh (ranTo sh h) (log .tail)
     cells-all cs s = how-many sh shape (ids sh) cs (run log (log .tail) .cells) s ∙ rw (same (log .tail) (omega arith))
 
     verdict : (f : Option ℕ) (x : Played) → lowestFalse sh log room ≡ f → auditPlay sh log room (log .tail) ≡ x → length (cellsIn x) ≤ room → Ok sh shape log (ids sh) room (log .tail) x
@@ -236,8 +236,8 @@ module _ (sh : Shape) (shape : okShape sh ≡ true) (h : History) (scratch : Lis
         (λ a. clash (not (asPlayed sh log room d (log .entry d))) b (ap not (agrees-told (ap isGoing j) d l a)))
         (λ x k. told-agrees (ap isGoing j) x (omega arith) (not-false _ (e x k)))
     verdict f (lacks q cs) i j n (l, s, m) =
-        let here : length cs ≡ writtenBy sh h q = how-many sh shape (ids sh) cs (run log q .cells) s ∙ rw (same q (omega arith)) in
-        let next : room < writtenBy sh h (q + 1) = rw (same (q + 1) (omega arith), add-one q) m in
+        let here : length cs ≡ writtenBy sh (ranTo sh h) q = how-many sh shape (ids sh) cs (run log q .cells) s ∙ rw (same q (omega arith)) in
+        let next : room < writtenBy sh (ranTo sh h) (q + 1) = rw (same (q + 1) (omega arith), add-one q) m in
         full q refl l (omega arith) next
     verdict f (waits q cs) i j n s = no-wait sh log room good q cs j
 
@@ -250,11 +250,11 @@ module _ (sh : Shape) (shape : okShape sh ≡ true) (h : History) (scratch : Lis
       counts = λ r. cells-all cs s;
     }
     standing f (lacks q cs) j n (l, s, m) =
-        let next : room < writtenBy sh h (q + 1) = rw (same (q + 1) (omega arith), add-one q) m in
+        let next : room < writtenBy sh (ranTo sh h) (q + 1) = rw (same (q + 1) (omega arith), add-one q) m in
         record { stands = λ r. no-room q l next r; shows = λ r. no-room q l next r; counts = λ r. no-room q l next r }
     standing f (waits q cs) j n s = no-wait sh log room good q cs j
 
-    exactly : Audits sh h scratch (audit sh log scratch)
+    exactly : Audits sh (wholeLog sh h) (ranTo sh h) scratch (audit sh log scratch)
     exactly =
         let x = auditPlay sh log room (log .tail) in
         let ok = audit-ok sh shape log room frame good (log .tail) (omega arith) in

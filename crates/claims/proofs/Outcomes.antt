@@ -152,7 +152,7 @@ module _ (sh : Shape) (h : History) (x : Carried) (m n : ℕ) (c : Claim) (shows
         go (waiting d i) = short i
         go (noRoom d i) = short i
 
-    same-outcome : SameOutcome sh h (stood sh h m) x n c out
+    same-outcome : SameOutcome sh (ranTo sh h) (stood sh h m) x n c out
     same-outcome = record {
       ends = ended;
       aborts = λ d s o k i j. reads-next d o k i j ∙ ap (λ (cells : Holds). done (cells o k)) (ran-aborts sh shape h p n c low here s) ∙ sym (shows .cells o k i j);
