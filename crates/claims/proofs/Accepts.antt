@@ -14,7 +14,7 @@ use Rattle.lists.specs.Tests.{ands, ors, both, neither, or-case, clash}
 use Rattle.lists.specs.Sets.{all, isEmpty, mem}
 use Rattle.model.specs.Objects.{Object, Shape, isObject, okShape, hostedBy, hosted}
 use Rattle.model.specs.Entries.{Write, Claim, Commit, commit, Log, commitAt, writesOf, closed, decided, isNone}
-use Rattle.model.specs.Slot.{writeAt, readAt, logIn}
+use Rattle.model.specs.Slot.{slotSize, writeAt, readAt, logIn}
 use Rattle.model.specs.Rules.{fits, okWrites, narrow, okReads, okSaved, okOutcome, okNumber, lowestBad}
 use Rattle.model.specs.Table.{Cell, cellsOf, capacity}
 use Rattle.model.specs.Answers.{Refusal, refuse, refuseAt, firstOf, slots, badFrame, frameAndEntries}
@@ -156,7 +156,7 @@ module _ (sh : Shape) (log : Log) where
   words-outcome v (inl e) = rw e
   words-outcome v (inr e) = rw e
 
-  pub decision-words : (o v : ℕ) → AllPass (ownTests sh log (decides o v)) → DecisionAllowed log o v
+  decision-words : (o v : ℕ) → AllPass (ownTests sh log (decides o v)) → DecisionAllowed log o v
   unfolding ownTests
   decision-words o v t =
       let given : (leb (log .tail) o || not (okOutcome v)) ≡ false = refuse-none 3 _ (t .0) in
@@ -261,7 +261,7 @@ module _ (sh : Shape) (l : Lent) (q : Request) where
   unfolding logIn
   words-accepted u =
       let good : lowestBad sh (inLog l) ≡ none = below-good sh (inLog l) (u .good) in
-      let free : l .tail < length (l .bytes) / 256 = omega (arith, u .free) in
+      let free : l .tail < length (l .bytes) / slotSize = omega (arith, u .free) in
       let t : appendRefusal sh (inLog l) q ≡ none = pass-all (frameAndEntries sh (inLog l) ++ ownTests sh (inLog l) q)
       (passing 1 (badFrame (inLog l)) (words-frame l (u .framed)), (ap (refuseAt 2) good, words-own sh (inLog l) q (u .allowed) free)) in
       ap (λ a. isRefused (a .newTail)) (wrote sh (l .bytes) (l .tail) q t)

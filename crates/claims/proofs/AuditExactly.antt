@@ -1,17 +1,17 @@
 -- The audit of a log that appends made, exactly: it passes where the scratch table has room and every decision and checkpoint
 -- agrees with the run, tells the lowest that does not, and without room the first entry whose cells have none.
-use Prim.Native.Nat.{ℕ, zero, suc, _+_, _*_, _/_, _%_, _<_, _≤_}
-use mathlib.Core.Path.{_≡_, refl, ap, ap₂, sym, _∙_, subst}
+use Prim.Native.Nat.{ℕ, _+_, _*_, _/_, _%_, _<_, _≤_}
+use mathlib.Core.Path.{_≡_, refl, ap, sym, _∙_, subst}
 use mathlib.Core.Logic.{_↔_}
 use mathlib.Core.Bool.{Bool, true, false, cond, not}
 use mathlib.Core.List.{List, [], _∷_, map}
 use mathlib.Core.Option.{Option, none, some, Option·some-injective}
 use native.Mathlib.Omega.{arith}
 use native.Mathlib.Numerals.{add-one}
-use borrow.Author.Tests.{eqb-true, eqb-false, ltb-true, ltb-false, le-ltb, not-false}
+use borrow.Author.Tests.{eqb-true, ltb-true, ltb-false, le-ltb, not-false}
 use lib.Dec.{eqb, ltb}
 use lib.ListN.{length}
-use Rattle.lists.specs.Tests.{ands, neither, clash}
+use Rattle.lists.specs.Tests.{ands, clash}
 use Rattle.lists.specs.First.{first, first-below, first-at}
 use Rattle.lists.specs.Sets.{mem}
 use Rattle.model.specs.Objects.{Object, Shape, ids, isCell, hostedBy, hosted, everyBit, everything, okShape}
@@ -21,9 +21,8 @@ use Rattle.model.specs.Rules.{okEntry, lowest, lowestBad}
 use Rattle.model.specs.Table.{Cell, Holds, capacity, tableWith}
 use Rattle.model.specs.Play.{Played, going, waits, lacks, cellsIn}
 use Rattle.model.specs.Answers.{Answer, done, refused, badFrame}
-use Rattle.model.specs.Append.{badRecord}
-use Rattle.model.specs.Replica.{Left, leftWith, readCell, auditPlay, asPlayed, lowestFalse, auditLeft, audit}
-use Rattle.model.specs.Histories.{inLog, isRefused, History, wholeLog, ranTo, cellsWritten}
+use Rattle.model.specs.Replica.{Left, readCell, auditPlay, asPlayed, lowestFalse, auditLeft, audit}
+use Rattle.model.specs.Histories.{inLog, isRefused, History, wholeLog, ranTo}
 use Rattle.model.specs.Conditions.{Framed}
 use Rattle.model.specs.Claims.{Agrees, writtenBy, HasRoom, tellingOf, Audits, AuditsExactly}
 use Rattle.model.specs.Worked.{code}

@@ -3,7 +3,7 @@
 use Prim.Native.Nat.{ℕ, _<_}
 use mathlib.Core.Path.{_≡_, refl, ap, ap₂, sym, _∙_}
 use mathlib.Core.Logic.{_↔_}
-use mathlib.Core.Bool.{Bool, true, false, cond}
+use mathlib.Core.Bool.{Bool, true, false}
 use mathlib.Core.List.{List, [], _∷_}
 use mathlib.Core.Option.{Option, none, some, Option·some-injective}
 use native.Mathlib.Omega.{arith}
@@ -11,25 +11,15 @@ use borrow.Author.Tests.{eqb-true, eqb-false, eq-eqb, ne-eqb, ltb-true, ltb-fals
 use lib.Dec.{eqb, ltb}
 use Rattle.lists.specs.Tests.{both}
 use Rattle.lists.specs.Sets.{ascending, first-leads, rest-ascends}
-use Rattle.model.specs.Entries.{Held, Saved}
+use Rattle.model.specs.Entries.{Saved}
 use Rattle.model.specs.Rules.{savedBefore}
 use Rattle.model.specs.Table.{Cell, lookup, savedOf}
 use Rattle.model.specs.Replica.{sameContent, sameSaved}
 use Rattle.model.specs.Conditions.{savedFor}
 use Rattle.laws.proofs.Refusals.{not-none}
 use Rattle.laws.proofs.Appends.{saved-ascends}
-use Rattle.claims.proofs.Cells.{held-cell}
-use Rattle.claims.proofs.Openings.{same-saved, loaded, lookup-saved}
-
--- ---- what a table's cells say of a key, saved
-
-saved-for : (o : ℕ) (cs : List Saved) (k : ℕ) → lookup (loaded o cs) o k ≡ savedFor cs k
-unfolding lookup
-saved-for o [] k = refl
-saved-for o (c ∷ cs) k = rw (eq-eqb o o refl, held-cell o (c .key) (c .held), saved-for o cs k)
-
-pub saved-reads : (o : ℕ) (cs : List Cell) (k : ℕ) → savedFor (savedOf o cs) k ≡ lookup cs o k
-saved-reads o cs k = sym (saved-for o (savedOf o cs) k) ∙ lookup-saved o cs k
+use Rattle.claims.proofs.Saved.{saved-for}
+use Rattle.claims.proofs.Openings.{same-saved}
 
 -- ---- lists that say the same
 
@@ -101,6 +91,6 @@ saved-same (c ∷ cs) =
 pub same-said : (o : ℕ) (cs : List Saved) (table : List Cell) → Ascends cs
     → (sameSaved cs (savedOf o table) ≡ true) ↔ ((k : ℕ) → savedFor cs k ≡ lookup table o k)
 same-said o cs table a = (
-  λ e k. ap (λ y. savedFor y k) (same-saved cs (savedOf o table) e) ∙ saved-reads o table k,
-  λ h. ap (sameSaved cs) (sym (saved-known cs (savedOf o table) a (saved-ascends o table) (λ k. h k ∙ sym (saved-reads o table k)))) ∙ saved-same cs,
+  λ e k. ap (λ y. savedFor y k) (same-saved cs (savedOf o table) e) ∙ saved-for o table k,
+  λ h. ap (sameSaved cs) (sym (saved-known cs (savedOf o table) a (saved-ascends o table) (λ k. h k ∙ sym (saved-for o table k)))) ∙ saved-same cs,
 )

@@ -1,10 +1,10 @@
 -- The audit's test of a decision or checkpoint, over the run: where its play goes on to the tail, its cells are the run's, so a
 -- decision passes exactly if it says whether some read was stale, and a checkpoint if it says what each cell of its object held.
-use Prim.Native.Nat.{ℕ, _<_, _≤_}
-use mathlib.Core.Path.{_≡_, refl, ap, sym, _∙_}
+use Prim.Native.Nat.{ℕ, _<_}
+use mathlib.Core.Path.{_≡_, refl, sym, _∙_}
 use mathlib.Core.Logic.{_↔_}
 use mathlib.Core.Bool.{Bool, true, false, Bool·beq}
-use mathlib.Core.List.{List, []}
+use mathlib.Core.List.{List}
 use mathlib.Core.Option.{none}
 use native.Mathlib.Omega.{arith}
 use borrow.Author.Tests.{eqb-true, eqb-false}
@@ -23,7 +23,7 @@ use Rattle.model.specs.Conditions.{Stale, savedFor}
 use Rattle.laws.proofs.Appends.{good-kept}
 use Rattle.claims.proofs.Runs.{run, commitsAt}
 use Rattle.claims.proofs.Aborts.{stale-old, old-stale}
-use Rattle.claims.proofs.Audits.{isGoing, goes-back, played-shows, commits-same, decision-below}
+use Rattle.claims.proofs.Audits.{isGoing, goes-back, played-shows, commits-same}
 use Rattle.claims.proofs.Checkpoints.{same-said}
 
 -- an outcome and a test of reads

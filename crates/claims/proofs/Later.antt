@@ -8,7 +8,7 @@ use native.Mathlib.Omega.{arith}
 use lib.ListN.{take, drop}
 use lib.Seq.{take-take, take-nil}
 use Rattle.model.specs.Objects.{Shape, okShape}
-use Rattle.model.specs.Slot.{slot}
+use Rattle.model.specs.Slot.{slotSize, slot}
 use Rattle.model.specs.Answers.{Answer, done, refused, badFrame}
 use Rattle.model.specs.Append.{Request}
 use Rattle.model.specs.Histories.{Lent, inLog, tailAfter, appendTo, after, grown}
@@ -23,18 +23,18 @@ part-taken zero (suc d) k (x ∷ b) h = absurd (omega arith)
 part-taken (suc n) (suc d) k (x ∷ b) h = part-taken n d k b (omega arith)
 
 -- a slot below the lower of two tails, in bytes that are the same up to it
-pub slot-later : (a b : List ℕ) (m n o : ℕ) → o < m → m ≤ n → take (256 * m) b ≡ take (256 * m) a → slot (take (256 * n) b) o ≡ slot (take (256 * m) a) o
+pub slot-later : (a b : List ℕ) (m n o : ℕ) → o < m → m ≤ n → take (slotSize * m) b ≡ take (slotSize * m) a → slot (take (slotSize * n) b) o ≡ slot (take (slotSize * m) a) o
 unfolding slot
 slot-later a b m n o h l e =
-    part-taken (256 * n) (256 * o) 256 b (omega arith)
-    ∙ sym (part-taken (256 * m) (256 * o) 256 b (omega arith))
-    ∙ ap (λ (t : List ℕ). take 256 (drop (256 * o) t)) e
+    part-taken (slotSize * n) (slotSize * o) slotSize b (omega arith)
+    ∙ sym (part-taken (slotSize * m) (slotSize * o) slotSize b (omega arith))
+    ∙ ap (λ (t : List ℕ). take slotSize (drop (slotSize * o) t)) e
 
 -- ---- the log
 
 pub record Later (l m : Lent) : Type 0 where
   pub tails : l .tail ≤ m .tail
-  pub same : take (256 * l .tail) (m .bytes) ≡ take (256 * l .tail) (l .bytes)
+  pub same : take (slotSize * l .tail) (m .bytes) ≡ take (slotSize * l .tail) (l .bytes)
   pub frame : badFrame (inLog m) ≡ false
 
 module _ (sh : Shape) (shape : okShape sh ≡ true) where
@@ -47,7 +47,7 @@ module _ (sh : Shape) (shape : okShape sh ≡ true) where
           record { tails = omega (arith, a .next); same = a .front; frame = rw (a .next) (a .frame) }
       by (refused r) e =
           let s = refused-same sh (l .bytes) (l .tail) q r e in
-          record { tails = omega arith; same = ap (take (256 * l .tail)) s; frame = rw s framed }
+          record { tails = omega arith; same = ap (take (slotSize * l .tail)) s; frame = rw s framed }
 
   pub grown-later : (l : Lent) (qs : List Request) → badFrame (inLog l) ≡ false → Later l (grown sh l qs)
   unfolding grown
@@ -58,9 +58,9 @@ module _ (sh : Shape) (shape : okShape sh ≡ true) where
       let end : List ℕ = grown sh (after sh l q) qs .bytes in
       record {
         tails = omega (arith, a .tails, b .tails);
-        same = sym (take-take (256 * l .tail) (256 * after sh l q .tail) end (omega (arith, a .tails)))
-            ∙ ap (take (256 * l .tail)) (b .same)
-            ∙ take-take (256 * l .tail) (256 * after sh l q .tail) (after sh l q .bytes) (omega (arith, a .tails))
+        same = sym (take-take (slotSize * l .tail) (slotSize * after sh l q .tail) end (omega (arith, a .tails)))
+            ∙ ap (take (slotSize * l .tail)) (b .same)
+            ∙ take-take (slotSize * l .tail) (slotSize * after sh l q .tail) (after sh l q .bytes) (omega (arith, a .tails))
             ∙ a .same;
         frame = b .frame;
       }

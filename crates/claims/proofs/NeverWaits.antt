@@ -1,7 +1,7 @@
 -- An audit never waits, on any log and over any scratch table: it plays good logs alone, whose commit records read objects of
 -- the directory, and it hosts them all, so it decides each commit record by its own cells.
 use Prim.Native.Nat.{ℕ, zero, suc, _+_, _<_}
-use mathlib.Core.Path.{_≡_, refl, ap, sym, _∙_}
+use mathlib.Core.Path.{_≡_, refl, ap, _∙_}
 use mathlib.Core.Bool.{Bool, true, false, cond}
 use mathlib.Core.List.{List, [], _∷_}
 use mathlib.Core.Option.{Option, none, some}

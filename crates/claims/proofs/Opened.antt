@@ -1,12 +1,12 @@
 -- Openings: fresh, of any set but 0; at a checkpoint, wherever one is and the table has room for its cells, with those cells,
 -- which obey the rules, fit their bytes and so are read back as they were stored.
-use Prim.Native.Nat.{ℕ, _+_, _*_, _<_, _≤_}
-use mathlib.Core.Path.{_≡_, refl, ap, sym, _∙_}
-use mathlib.Core.Bool.{Bool, true, false, _||_}
+use Prim.Native.Nat.{ℕ, _+_, _*_, _<_}
+use mathlib.Core.Path.{_≡_, refl, ap, _∙_}
+use mathlib.Core.Bool.{true, false, _||_}
 use mathlib.Core.List.{List, [], _∷_, _++_}
 use mathlib.Core.Option.{Option, none, some}
 use native.Mathlib.Omega.{arith}
-use borrow.Author.Tests.{ne-eqb, leb-false, ltb-false, lt-leb, le-ltb}
+use borrow.Author.Tests.{ne-eqb, leb-false, lt-leb, le-ltb}
 use lib.Dec.{leb, ltb}
 use lib.ListN.{length, drop, length-map}
 use lib.Seq.{drop-at}
@@ -17,10 +17,10 @@ use Rattle.model.specs.Objects.{Shape, okShape, setOf}
 use Rattle.model.specs.Entries.{Saved, Entry, plain, numbered, commit, decision, checkpoint, blank, Log, ifSome, isNone}
 use Rattle.model.specs.Slot.{logIn}
 use Rattle.model.specs.Rules.{lowestBad, okSaved, okEntry}
-use Rattle.model.specs.Table.{Cell, cellSize, cellBytes, cellOf, capacity, tableWith}
+use Rattle.model.specs.Table.{cellSize, cellBytes, cellOf, capacity, tableWith}
 use Rattle.model.specs.Answers.{Refusal, done, refuse, firstOf, badFrame, frameAndEntries}
 use Rattle.model.specs.Replica.{leftWith, openFresh, Checkpoint, checkpointIn, openRefusal, openGiven, openAt}
-use Rattle.model.specs.Histories.{Lent, inLog, isRefused}
+use Rattle.model.specs.Histories.{inLog, isRefused}
 use Rattle.model.specs.Claims.{OpensFresh, OpenedAt, OpensAt, OpensWherever}
 use Rattle.laws.proofs.Refusals.{all-pass, refuse-none, refuseAt-none, below-good}
 use Rattle.laws.proofs.Tables.{length-stored, cells-back}

@@ -1,26 +1,28 @@
 -- A checkpoint of a log that the audit passes shows what the run's cells of its object hold: its cells are the played ones put
--- in key order, of which the first with a key counts, and the rules keep them ascending, so that none is there twice.
+-- in key order, and the rules keep them ascending, so that none is there twice.
 use Prim.Native.Nat.{ℕ, suc, _+_, _*_, _/_, _%_, _<_, _≤_, _^_}
 use mathlib.Core.Path.{_≡_, refl, ap, ap₂, sym, _∙_}
-use mathlib.Core.Bool.{Bool, true, false, cond, _&&_, _||_}
+use mathlib.Core.Bool.{Bool, true, false, cond, _||_}
 use mathlib.Core.List.{List, [], _∷_, map}
 use mathlib.Core.Option.{Option, none, some}
 use native.Mathlib.Omega.{arith}
-use borrow.Author.Tests.{eqb-true, eqb-false, eq-eqb, ltb-true, leb-true, lt-ltb}
-use lib.Dec.{eqb, ltb}
+use borrow.Author.Tests.{eqb-true, eq-eqb, ltb-true, leb-true, lt-ltb}
+use lib.Dec.{eqb}
 use Rattle.lists.specs.Tests.{and-r, ands, both, or-false, clash}
 use Rattle.lists.specs.Sets.{all, mem, ascending, first-leads, rest-ascends}
 use Rattle.model.specs.Objects.{Object, Shape, ids, isObject, isCell, okShape, hostedBy, hosted, bitOf, setOf}
-use Rattle.model.specs.Entries.{Held, Saved, checkpoint, effect, Log, isNone}
+use Rattle.model.specs.Entries.{Saved, checkpoint, effect, Log, isNone}
 use Rattle.model.specs.Slot.{valueField}
 use Rattle.model.specs.Rules.{fits, okSaved, savedBefore, okEntry}
-use Rattle.model.specs.Table.{Cell, heldBy, lookup, cellOf, insertSaved, savedOf}
+use Rattle.model.specs.Table.{Cell, lookup, cellOf, savedOf}
 use Rattle.model.specs.Play.{cellsIn}
+use Rattle.model.specs.Conditions.{savedFor}
 use Rattle.model.specs.Replica.{sameContent, sameSaved, auditPlay, asPlayed}
 use Rattle.laws.proofs.Items.{fitsCell, cell-small}
 use Rattle.laws.proofs.Appends.{good-kept}
-use Rattle.claims.proofs.Counts.{same, same-key, other-key}
-use Rattle.claims.proofs.Cells.{cond-twice, cond-swap, held-cell, distinct, owned, present-fits, Shown}
+use Rattle.claims.proofs.Counts.{other-key}
+use Rattle.claims.proofs.Cells.{held-cell, distinct, owned, present-fits, Shown}
+use Rattle.claims.proofs.Saved.{saved-for}
 use Rattle.claims.proofs.Runs.{cellsAfter, run, cells-run}
 use Rattle.claims.proofs.Audits.{Sound, tail-small, audit-shows}
 
@@ -81,34 +83,11 @@ abbrev pub loaded : ℕ → List Saved → List Cell
 loaded o cs = map (λ (c : Saved). cellOf o c.key c.held) cs
 
 module _ (o : ℕ) where
-  lookup-insert : (c : Saved) (l : List Saved) (x k : ℕ) → lookup (loaded o (insertSaved c l)) x k ≡ lookup (loaded o (c ∷ l)) x k
+  -- they read as the checkpoint says
+  loaded-for : (cs : List Saved) (k : ℕ) → lookup (loaded o cs) o k ≡ savedFor cs k
   unfolding lookup
-  lookup-insert c [] x k = refl
-  lookup-insert c (d ∷ l) x k = go (ltb c.key d.key) (eqb c.key d.key) refl (lookup-insert c l x k)
-    where
-      held : Saved → Option Held
-      held y = some (heldBy (cellOf o (y .key) (y .held)))
-
-      go : (b e : Bool) → eqb c.key d.key ≡ e → lookup (loaded o (insertSaved c l)) x k ≡ lookup (loaded o (c ∷ l)) x k
-          → lookup (loaded o (cond b (c ∷ d ∷ l) (cond e (c ∷ l) (d ∷ insertSaved c l)))) x k ≡ lookup (loaded o (c ∷ d ∷ l)) x k
-      go true e q ih = refl
-      go false true q ih = rw (← eqb-true (c .key) (d .key) q) (cond-twice (same o c.key x k) (held c) (held d) (lookup (loaded o l) x k))
-      go false false q ih = rw ih (cond-swap (same o d.key x k) (same o c.key x k) (held d) (held c) (lookup (loaded o l) x k)
-          (λ i j. eqb-false (c .key) (d .key) q (same-key o c.key x k j ∙ sym (same-key o d.key x k i))))
-
-  -- the saved cells of the object read as the table's
-  pub lookup-saved : (cs : List Cell) (k : ℕ) → lookup (loaded o (savedOf o cs)) o k ≡ lookup cs o k
-  unfolding lookup savedOf
-  lookup-saved [] k = refl
-  lookup-saved (c ∷ cs) k = go (eqb c.object o) refl (lookup-saved cs k)
-    where
-      saved : Saved
-      saved = record { key = c .key; held = heldBy c }
-
-      go : (b : Bool) → eqb c.object o ≡ b → lookup (loaded o (savedOf o cs)) o k ≡ lookup cs o k
-          → lookup (loaded o (cond b (insertSaved saved (savedOf o cs)) (savedOf o cs))) o k ≡ cond (b && eqb c.key k) (some (heldBy c)) (lookup cs o k)
-      go true e ih = lookup-insert saved (savedOf o cs) o k ∙ rw (held-cell o (c .key) (heldBy c), eq-eqb o o refl, ih)
-      go false e ih = ih
+  loaded-for [] k = refl
+  loaded-for (c ∷ cs) k = rw (eq-eqb o o refl, held-cell o (c .key) (c .held), loaded-for cs k)
 
   -- an ascending list has no key twice
   absent : (k : ℕ) (c : Saved) (cs : List Saved) → k < c .key → ascending savedBefore (c ∷ cs) ≡ true → isNone (lookup (loaded o (c ∷ cs)) o k) ≡ true
@@ -152,7 +131,7 @@ checkpoint-shows sh shape log room sound d o cs l e =
     let played : List Cell = cellsIn (auditPlay sh log room d) in
     let kept : run log (suc d) .cells ≡ run log d .cells = cells-run log d ∙ ap (λ x. cellsAfter (d + 1) (run log d) (effect x)) e in
     let there : (i : ℕ) → lookup (loaded o cs) o i ≡ run log (suc d) .cells o i =
-    λ i. ap (λ y. lookup (loaded o y) o i) (same-saved cs (savedOf o played) t) ∙ lookup-saved o played i
+    λ i. loaded-for o cs i ∙ ap (λ y. savedFor y i) (same-saved cs (savedOf o played) t) ∙ saved-for o played i
     ∙ audit-shows sh shape log room sound d (omega arith) .reads o i m ∙ ap (λ c. c o i) (sym kept) in
     record {
       reads = λ x i h. rw (← mem-one x o h) (there i);

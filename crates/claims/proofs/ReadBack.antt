@@ -3,42 +3,40 @@
 -- bytes, read and stored again, are those bytes.
 use mathlib.Core.Path.{_≡_, refl, ap, ap₂, sym, _∙_}
 use mathlib.Core.Logic.{_↔_}
-use mathlib.Core.Bool.{Bool, true, false, _||_}
-use mathlib.Core.List.{List, _++_, List·Memᴰ}
+use mathlib.Core.Bool.{true}
+use mathlib.Core.List.{List, List·Memᴰ}
 use mathlib.Core.Option.{none}
-use Prim.Native.Nat.{ℕ, _+_, _*_, _%_, _<_, _≤_}
+use Prim.Native.Nat.{ℕ, _+_, _*_, _≤_}
 use native.Mathlib.Omega.{arith}
 use lib.ListN.{length, take, drop}
-use borrow.Author.Tests.{lt-leb, lt-ltb, eqb-true, not-false}
-use Rattle.lists.specs.Tests.{ors}
+use borrow.Author.Tests.{lt-leb, lt-ltb}
 use Rattle.lists.specs.Sets.{mem, ascendingSet, mem-set}
 use Rattle.lists.specs.Members.{mem-map, map-mem}
 use Rattle.lists.specs.Rows.{map-values}
 use Rattle.lists.specs.Bytes.{beAt}
 use Rattle.lists.specs.Splice.{splice}
 use Rattle.model.specs.Objects.{Shape, okShape}
-use Rattle.model.specs.Entries.{Write, Claim, commit, Log, writesOf, writtenObjects, commitObjects, headerObjects, numberOf}
-use Rattle.model.specs.Slot.{markOf, itemBytes, itemCount, slotOf, slot, logIn}
+use Rattle.model.specs.Entries.{Write, commit, Log, writesOf, writtenObjects, commitObjects, headerObjects, numberOf}
+use Rattle.model.specs.Slot.{slotSize, markOf, itemBytes, itemCount, slotOf, slot, logIn}
 use Rattle.model.specs.Rules.{lowestBad}
 use Rattle.model.specs.Table.{Cell, cellsOf, savedOf}
-use Rattle.model.specs.Answers.{done, refuse, answer, frameAndEntries}
+use Rattle.model.specs.Answers.{done, answer}
 use Rattle.model.specs.Reading.{Header, headerAt, kindIn, infoIn, entryRefusal, entryCall, stretch, orEmpty, itemList}
-use Rattle.model.specs.Append.{Request, update, commits, decides, saves, writesGiven, entryOf, notWhole, ownTests, appendRefusal}
+use Rattle.model.specs.Append.{Request, update, commits, decides, saves, writesGiven, entryOf}
 use Rattle.model.specs.Histories.{Lent, inLog, tailAfter, appendTo, after, Accepted, grown}
-use Rattle.model.specs.Conditions.{SetAside}
+use Rattle.model.specs.Conditions.{SetAside, Allowed}
 use Rattle.model.specs.Claims.{WroteOneSlot, WritesOneSlot, kindGiven, NumberGiven, ObjectsGiven, ItemsGiven, headerObjectsIn, Back, ReadsBack}
 use Rattle.laws.specs.Headers.{objectsIn}
 use Rattle.laws.proofs.Slots.{Kept, headers-few, number-fits, items-few, slot-mark, slot-count, slot-number, slot-items}
 use Rattle.laws.proofs.Stored.{given-writes, given-reads, update-items}
 use Rattle.laws.proofs.Headers.{headers-small, headers-ascend, objects-read}
-use Rattle.laws.proofs.Refusals.{AllPass, all-pass, refuse-none}
 use Rattle.laws.proofs.Appends.{Accepted as Exit, saved-ascends, accepted, good-kept, passed, wrote}
 use Rattle.laws.proofs.ByKind.{update-mark, update-number, update-objects}
 use Rattle.claims.proofs.Conditions.{writes-aside, aside-writes}
 use Rattle.claims.proofs.KeepsGood.{grown-good}
 use Rattle.claims.proofs.Later.{Later, grown-later, slot-later}
 use Rattle.claims.proofs.Saved.{saved-for}
-use Rattle.claims.proofs.Accepts.{decision-words}
+use Rattle.claims.proofs.Accepts.{accepts-exactly}
 
 -- ---- the kind
 
@@ -57,34 +55,24 @@ objects-told s = map-values (λ (x : Header). x .object) (λ i. headerAt s (8 + 
 
 -- ---- what was given
 
--- the first test of updates and commits passed
-whole-items : (items : List ℕ) (a b : Bool) → refuse 3 (notWhole items || a || b) ≡ none → length items % 16 ≡ 0
-whole-items items a b e =
-    let h : (notWhole items || a || b) ≡ false = refuse-none 3 (notWhole items || a || b) e in
-    eqb-true (length items % 16) 0 (not-false _ (search ors))
-
 -- the bytes of the entry's items
-items-given : (sh : Shape) (log : Log) (q : Request) → AllPass (ownTests sh log q) → ItemsGiven q (itemBytes (entryOf q))
-unfolding ownTests entryOf itemBytes
-items-given sh log (update n items) t = λ bytes. update-items n (writesGiven items) ∙ given-writes items bytes (whole-items items _ _ (t .0))
-items-given sh log (commits n items) t = λ bytes. given-reads items bytes (whole-items items _ _ (t .0))
-items-given sh log (decides o v) t = refl
-items-given sh log (saves r table o) t =
+items-given : (sh : Shape) (log : Log) (q : Request) → Allowed sh log q → ItemsGiven q (itemBytes (entryOf q))
+unfolding entryOf itemBytes
+items-given sh log (update n items) a = λ bytes. update-items n (writesGiven items) ∙ given-writes items bytes (omega (arith, a .whole))
+items-given sh log (commits n items) a = λ bytes. given-reads items bytes (omega (arith, a .whole))
+items-given sh log (decides o v) a = refl
+items-given sh log (saves r table o) a =
     let cells : List Cell = cellsOf table (r .count) in
     record { cells = savedOf o cells; stored = refl; ascend = saved-ascends o cells; holds = saved-for o cells }
 
--- the commit record that a decision names, and what it tells of it
-decided-commit : (sh : Shape) (log : Log) (o v : ℕ) → AllPass (ownTests sh log (decides o v)) → (o < log .tail) × ((n : ℕ) × (c : Claim) × (log .entry o ≡ commit n c))
-decided-commit sh log o v t = let a = decision-words sh log o v t in (a .below, a .commits)
-
-number-given : (sh : Shape) (log : Log) (q : Request) → AllPass (ownTests sh log q) → NumberGiven log q (numberOf log (log .tail) (entryOf q))
+number-given : (sh : Shape) (log : Log) (q : Request) → Allowed sh log q → NumberGiven log q (numberOf log (log .tail) (entryOf q))
 unfolding entryOf numberOf
-number-given sh log (update n items) t = update-number n (writesGiven items) log (log .tail)
-number-given sh log (commits n items) t = refl
-number-given sh log (decides o v) t =
-    let (below, (n, c, e)) = decided-commit sh log o v t in
-    (c, e ∙ ap (λ (m : ℕ). commit m c) (rw (lt-ltb o (log .tail) below, e)))
-number-given sh log (saves r table o) t = refl
+number-given sh log (update n items) a = update-number n (writesGiven items) log (log .tail)
+number-given sh log (commits n items) a = refl
+number-given sh log (decides o v) a =
+    let (n, c, e) = a .commits in
+    (c, e ∙ ap (λ (m : ℕ). commit m c) (rw (lt-ltb o (log .tail) (a .below), e)))
+number-given sh log (saves r table o) a = refl
 
 -- the objects of writes, as a set
 module _ (ws : List Write) (Made : Write → Type 0) (of : (w : Write) → List·Memᴰ w ws ↔ Made w) where
@@ -97,14 +85,14 @@ module _ (ws : List Write) (Made : Write → Type 0) (of : (w : Write) → List�
 commit-words : (log : Log) (n p x : ℕ) → (mem x (commitObjects log p n) ≡ true) ↔ ((w : Write) × SetAside log n p w × (w .object ≡ x))
 commit-words log n p = written-words (writesOf log n p) (SetAside log n p) (λ w. (writes-aside log n p w, aside-writes log n p w))
 
-objects-given : (sh : Shape) (log : Log) (q : Request) → AllPass (ownTests sh log q) → ObjectsGiven log q (headerObjects log (log .tail) (entryOf q))
+objects-given : (sh : Shape) (log : Log) (q : Request) → Allowed sh log q → ObjectsGiven log q (headerObjects log (log .tail) (entryOf q))
 unfolding entryOf headerObjects
-objects-given sh log (update n items) t =
+objects-given sh log (update n items) a =
     let ws : List Write = writesGiven items in
     rw (update-objects n ws log (log .tail)) (written-words ws (λ w. List·Memᴰ w ws) (λ w. (λ m. m, λ m. m)))
-objects-given sh log (commits n items) t = commit-words log n (log .tail)
-objects-given sh log (decides o v) t = λ n c e. rw (lt-ltb o (log .tail) (decided-commit sh log o v t .0), e) (commit-words log n o)
-objects-given sh log (saves r table o) t = refl
+objects-given sh log (commits n items) a = commit-words log n (log .tail)
+objects-given sh log (decides o v) a = λ n c e. rw (lt-ltb o (log .tail) (a .below), e) (commit-words log n o)
+objects-given sh log (saves r table o) a = refl
 
 -- ---- what an accepted append left
 
@@ -113,16 +101,13 @@ module _ (sh : Shape) (shape : okShape sh ≡ true) (l : Lent) (q : Request) (ta
   abbrev pub itsSlot : List ℕ
   itsSlot = slotOf (inLog l) (l .tail) (entryOf q)
 
-  passes : appendRefusal sh (inLog l) q ≡ none
-  passes = passed sh (l .bytes) (l .tail) q taken
+  given : Allowed sh (inLog l) q
+  given = accepts-exactly sh shape l q .0 taken .allowed
 
-  pub own-tests : AllPass (ownTests sh (inLog l) q)
-  own-tests = all-pass (frameAndEntries sh (inLog l) ++ ownTests sh (inLog l) q) passes .1 .1
+  left : appendTo sh l q ≡ record { newTail = done (l .tail + 1); bytes = splice (l .bytes) (slotSize * l .tail) itsSlot }
+  left = wrote sh (l .bytes) (l .tail) q (passed sh (l .bytes) (l .tail) q taken)
 
-  left : appendTo sh l q ≡ record { newTail = done (l .tail + 1); bytes = splice (l .bytes) (256 * l .tail) itsSlot }
-  left = wrote sh (l .bytes) (l .tail) q passes
-
-  pub left-bytes : after sh l q .bytes ≡ splice (l .bytes) (256 * l .tail) itsSlot
+  pub left-bytes : after sh l q .bytes ≡ splice (l .bytes) (slotSize * l .tail) itsSlot
   left-bytes = ap (λ a. a .bytes) left
 
   exit : Exit sh (l .bytes) (l .tail) q (l .tail + 1) (appendTo sh l q .bytes)
@@ -179,7 +164,7 @@ module _ (sh : Shape) (shape : okShape sh ≡ true) (l : Lent) (q : Request) (ta
     unfolding logIn
     written =
         slot-later (after sh l q .bytes) (now .bytes) (after sh l q .tail) (now .tail) (l .tail) (omega (arith, tail-after)) (up .tails) (up .same)
-        ∙ ap (λ (t : ℕ). slot (take (256 * t) (after sh l q .bytes)) (l .tail)) tail-after
+        ∙ ap (λ (t : ℕ). slot (take (slotSize * t) (after sh l q .bytes)) (l .tail)) tail-after
         ∙ exit .written
 
     pub info-left : entryCall sh (inLog now) (l .tail) ≡ done (infoIn itsSlot)
@@ -199,10 +184,10 @@ module _ (sh : Shape) (shape : okShape sh ≡ true) (l : Lent) (q : Request) (ta
       info = infoIn itsSlot;
       reads = info-left;
       kind = kind-is;
-      number = rw number-is (number-given sh (inLog l) q own-tests);
-      objects = rw objects-are (objects-given sh (inLog l) q own-tests);
+      number = rw number-is (number-given sh (inLog l) q given);
+      objects = rw objects-are (objects-given sh (inLog l) q given);
       ascend = rw objects-are (headers-ascend (inLog l) (l .tail) (entryOf q));
-      items = rw items-left (items-given sh (inLog l) q own-tests);
+      items = rw items-left (items-given sh (inLog l) q given);
     }
 
 pub reads-back : (sh : Shape) → okShape sh ≡ true → ReadsBack sh

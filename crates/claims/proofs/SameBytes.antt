@@ -10,7 +10,7 @@ use lib.ListN.{length}
 use Rattle.lists.specs.Splice.{splice}
 use Rattle.model.specs.Objects.{Shape, okShape}
 use Rattle.model.specs.Entries.{Entry, Log, headerObjects, numberOf}
-use Rattle.model.specs.Slot.{markUpdate, markCommit, markDecision, markCheckpoint, markOf, itemBytes, itemCount, slotOf}
+use Rattle.model.specs.Slot.{slotSize, markUpdate, markCommit, markDecision, markCheckpoint, markOf, itemBytes, itemCount, slotOf}
 use Rattle.model.specs.Answers.{Answer, done, refused}
 use Rattle.model.specs.Reading.{Info, infoIn, entryCall, itemList}
 use Rattle.model.specs.Append.{Request, update, commits, decides, saves, writesGiven, entryOf}
@@ -70,7 +70,7 @@ module _ (sh : Shape) (shape : okShape sh ≡ true) (l : Lent) (q : Request) (ta
 pub same-bytes : (sh : Shape) → okShape sh ≡ true → SameBytes sh
 same-bytes sh shape l q q′ i i′ taken taken′ e e′ kind number objects items =
     left-bytes sh shape l q taken
-    ∙ ap (splice (l .bytes) (256 * l .tail))
+    ∙ ap (splice (l .bytes) (slotSize * l .tail))
     (same-slot (inLog l) (l .tail) (entryOf q) (entryOf q′)
     (mark-told sh shape l q taken i e ∙ ap markOfKind kind ∙ sym (mark-told sh shape l q′ taken′ i′ e′))
     (number-told sh shape l q taken i e ∙ number ∙ sym (number-told sh shape l q′ taken′ i′ e′))
