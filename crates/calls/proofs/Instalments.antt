@@ -20,10 +20,12 @@ use Rattle.model.specs.Play.{Played, going, waits, lacks, cellsIn, versionAt, o
 use Rattle.model.specs.Answers.{Refusal, Answer, done, refused, refuse, firstOf, frameAndEntries, badFrame}
 use Rattle.model.specs.Append.{Replica, badRecord, badReplica}
 use Rattle.model.specs.Replica as model
-use Rattle.model.specs.Histories.{inLog}
+use Rattle.model.specs.Histories.{inLog, playOn}
 use Rattle.model.specs.Claims.{Bytes}
 use Rattle.records.specs.Record.{replicaIn}
-use Rattle.calls.specs.Claims.{leftOf, CallsInstalments}
+use Rattle.calls.specs.Values.{carry, stopOf, kept}
+use Rattle.calls.specs.Claims.{CallsInstalments}
+use Rattle.calls.proofs.Promises.{play-promise}
 use Rattle.laws.proofs.Items.{fitsCell}
 use Rattle.laws.proofs.Tables.{length-cells, cells-back, cells-fit}
 use Rattle.laws.proofs.Slots.{Kept, writes-ok}
@@ -222,10 +224,9 @@ module _ (log : Log) where
 pub calls-instalments : CallsInstalments
 unfolding logIn
 calls-instalments log k bytes one two entire e l m =
-    let stop : ℕ = entire .stop in
-    let given : leftOf log (one .kept) two ≡ model.playCall depots (inLog log) (replicaIn (one .kept .replica)) (one .kept .table) stop =
-    two .promise ∙ ap (model.playCall depots (inLog log) (replicaIn (one .kept .replica)) (one .kept .table)) e in
-    given
-    ∙ ap (λ (x : model.Left). model.playCall depots (inLog log) (x .replica) (x .table) stop) (one .promise)
-    ∙ instalments (inLog log) (replicaIn (k .replica)) (k .table) bytes (one .stop) stop l m
-    ∙ sym (entire .promise)
+    let stop : ℕ = stopOf entire in
+    play-promise log (kept one) two
+    ∙ ap (playOn depots log (carry (kept one))) e
+    ∙ ap (λ (x : model.Left). model.playCall depots (inLog log) (x .replica) (x .table) stop) (play-promise log k one)
+    ∙ instalments (inLog log) (replicaIn (k .replica)) (k .table) bytes (stopOf one) stop l m
+    ∙ sym (play-promise log k entire)

@@ -2,6 +2,7 @@ pub mod Promises
 pub mod Histories
 pub mod Demand1
 pub mod Appends
+pub mod Aborts
 pub mod Audits
 pub mod Openings
 pub mod Behave
