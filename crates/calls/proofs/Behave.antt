@@ -42,8 +42,8 @@ module _ (a : Appends) where
   opened-so k (atCheckpoint n c e) = (
     model-histories.atCheckpoint n (c .call .given .1 .1 .0) (denote.Ref.now (c .call .given .1 .1 .1 .0)),
     ap (λ (l : Lent). ifOpened (model.openAt depots (inLog l) (c .call .given .1 .1 .0) (denote.Ref.now (c .call .given .1 .1 .1 .0)))) (stood-left a n)
-    ∙ ap ifOpened (sym (open-promise (logAfter a n) c))
-    ∙ ap (λ x. model-histories.ifDone (checkedIn x) (carried (openLeft c))) e,
+        ∙ ap ifOpened (sym (open-promise (logAfter a n) c))
+        ∙ ap (λ x. model-histories.ifDone (checkedIn x) (carried (openLeft c))) e,
   )
 
   abbrev playOf : (k : Kept) → PlayCall a k → Play

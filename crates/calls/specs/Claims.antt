@@ -84,12 +84,12 @@ abbrev pub CallsKeepGood : Type 0
 CallsKeepGood = (a : Appends) (c : CheckCall (lastLog a)) (o : Offset) → c .call .answer ≡ checked.Refused (refusal.BadEntry o) → ⊥
 
 -- what was given, as the entry call and the item list tell it
-pub record Returns (c : AppendCall) (answer : Info) (items : List ℕ) : Type 0 where
+pub record Returns (c : AppendCall) (answer : Info) (handed : List ℕ) : Type 0 where
   pub kind : infoOf answer .kind ≡ kindGiven (seen c .request)
   pub number : NumberGiven (inLog (lentAt c)) (seen c .request) (infoOf answer .number)
   pub objects : ObjectsGiven (inLog (lentAt c)) (seen c .request) (headerObjectsIn (infoOf answer))
   pub ascend : ascending ltb (headerObjectsIn (infoOf answer)) ≡ true
-  pub items : ItemsGiven (seen c .request) items
+  pub items : ItemsGiven (seen c .request) handed
 
 -- "What append wrote reads back as what was given", after any further appends
 abbrev pub CallsReadBack : Type 0
