@@ -2,21 +2,30 @@
  * stocklog.h - the shared stock log: append, read, play and audit over lent memory.
  *
  * Every function here is proved against the definitions in crates/model/specs: for any bytes and numbers it ends, touches
- * nothing but what is lent to it, and either does its work or returns one of the refusals below.
+ * nothing but what is lent to it, and either does its work or returns one of the refusals below. docs/TRUST.md says what that rests on.
  *
  * CONVENTION, the same for all calls
  *
- * - A slice is a pointer and a length in elements, in that order. An empty slice may have any pointer.
+ * - A slice is a pointer and a length in elements, in that order.
  * - The result is STOCKLOG_DONE, or the number of a refusal.
  * - The last argument, out, is written whole on every return, whatever was in it: values in out[0] to out[2], and in out[3] the
  *   offset told by STOCKLOG_BAD_ENTRY, by STOCKLOG_FALSE_RECORD and by the audit's STOCKLOG_NO_ROOM. A place in which nothing
  *   is said is 0. So out[3] is 0 for every other answer; it is also 0 where the offset told is 0: the result tells the two apart.
  *   Unless a call's text says otherwise, out[0] to out[2] are 0 where the call is refused.
- * - What a call writes (the log of an append, a table, a list, out) must not overlap anything else that is handed to it. What it
- *   only reads may overlap. Nothing else is asked of the caller: no alignment of byte slices, no range of a number.
  * - No call keeps a pointer, allocates, has state of its own, or waits. Calls from several threads are safe as long as none of
  *   them writes what another uses.
- * - Stack: STOCKLOG_STACK bytes are enough for any call.
+ *
+ * WHAT IS ASKED OF THE CALLER. No call can test it, and nothing is promised of one for which it does not hold.
+ *
+ * - A slice is memory of its whole length, readable, and writable where the pointer is not to const. Byte slices need no alignment;
+ *   a list is aligned as uint32_t is. An empty slice may have any pointer, a null one too: it is not followed.
+ * - out is not null, is aligned as uint64_t is, and has all its places: 4, for stocklog_entry 8.
+ * - What a call may write (out, and a log, table or list whose pointer is not to const) overlaps nothing else that is handed to it.
+ *   What it only reads may overlap.
+ * - During the call nobody else writes what is lent to it, or reads what it writes.
+ * - So much stack is left as is stated below; STOCKLOG_STACK is enough for any call.
+ *
+ * Nothing is asked of the bytes and the numbers: they may be any.
  *
  * THE LOG is a slice of 256-byte slots, at most 131,072 of them; tail counts the used ones. The caller keeps the tail: 0 for a
  * new log (whose bytes may be anything), then what each append answers. Slots at and above the tail are neither read nor judged.
@@ -92,10 +101,15 @@ enum {
 
 /*
  * Bytes of stack that are enough for any call, from its entry on, on x86-64. No call recurses, and its arrays have fixed
- * lengths, so its use does not depend on the log. For one call these are enough: 2,750,000 for stocklog_audit and stocklog_play,
- * 1,300,000 for stocklog_append_checkpoint and stocklog_owed, 20,000 for stocklog_open_fresh and stocklog_read_cell, 1,150,000 for each
- * other. tools/stack adds them up from the archive's machine code (frames along the calls, and 16 KiB for memset and memcpy)
- * and fails above STOCKLOG_STACK.
+ * lengths, so its use does not depend on the log. For one call these are enough:
+ *   2,750,000  stocklog_audit
+ *   2,600,000  stocklog_play
+ *   1,250,000  stocklog_append_checkpoint
+ *   1,210,000  stocklog_owed
+ *       1,000  stocklog_open_fresh, stocklog_read_cell
+ *   1,100,000  each other
+ * tools/stack adds up what is used from the archive's machine code (frames along the calls, and 16 KiB for memset and memcpy),
+ * and fails where it is more than is stated here, or where a figure here is over 5 % and over 1,000 bytes more.
  */
 enum { STOCKLOG_STACK = 3145728 };
 

@@ -1,5 +1,5 @@
 //! Stored vectors of the appends: a log, the requests made on it one after the other, and what must come of each.
-//! The format stands at the head of `src/bin/vectors.rs`.
+//! The format stands at the head of `src/vectors.rs`.
 
 pub mod checkpoints;
 pub mod fields;

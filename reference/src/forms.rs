@@ -1,6 +1,6 @@
 //! Stored vectors of the two forms that carry their state: a stream reader moved on to its end, and a record moved on in
 //! place by instalments. What must come of them is taken from the calls that carry none: the stream list, and one play by
-//! value. The format stands at the head of `src/bin/vectors.rs`.
+//! value. The format stands at the head of `src/vectors.rs`.
 
 use std::fmt::Write;
 

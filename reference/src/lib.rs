@@ -26,5 +26,6 @@ pub mod run;
 pub mod sample;
 pub mod slot;
 pub mod table;
+pub mod vectors;
 
 pub use answer::{Answer, Refusal};

@@ -1,5 +1,5 @@
 //! Stored vectors of opening fresh, play and cell reading: a log, a table and a record, the requests made on them one
-//! after the other, and what must come of each. The format stands at the head of `src/bin/vectors.rs`. `auditing` has
+//! after the other, and what must come of each. The format stands at the head of `src/vectors.rs`. `auditing` has
 //! those with openings at a checkpoint and audits.
 
 pub mod histories;

@@ -70,7 +70,7 @@ impl<T: Copy + PartialEq + Display> Lent<T> {
     }
 
     /// Puts elements there, up to the closed page or not, and gives the pointer and length to hand over. "An empty
-    /// slice may have any pointer": here none, or that of the closed page.
+    /// slice may have any pointer": here none, or an odd one into the closed page.
     pub fn lend(&mut self, elements: &[T], closed: bool) -> (*mut T, usize) {
         assert!(elements.len() <= self.room, "more than there is room for");
         self.length = elements.len();
@@ -81,7 +81,7 @@ impl<T: Copy + PartialEq + Display> Lent<T> {
         whole[BEFORE..BEFORE + length].copy_from_slice(elements);
         whole[BEFORE + length..].fill(pattern);
         match (length, closed) {
-            (0, true) => (self.end, 0),
+            (0, true) => (self.end.wrapping_byte_add(1), 0),
             (0, false) => (ptr::null_mut(), 0),
             _ => (self.whole()[BEFORE..].as_mut_ptr(), length),
         }

@@ -33,13 +33,6 @@ impl Side {
             Side::Reference => "reference",
         }
     }
-
-    pub fn words(self) -> &'static str {
-        match self {
-            Side::Library => "proved",
-            Side::Reference => "plain Rust",
-        }
-    }
 }
 
 #[repr(C)]
@@ -89,7 +82,7 @@ pub fn measured(call: &str, size: usize, side: Side, seed: u64, stride: u32) -> 
     let mut whole = 0.0;
     let mut said = None;
     let mut calls = 0;
-    while calls < 3 || whole < 5e8 && calls < 200 {
+    while calls < 3 || whole < 5e8 && calls < 2_000 {
         let start = now();
         said = Some(made(call, side, &mut lent));
         let took = now() - start;

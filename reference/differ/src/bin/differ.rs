@@ -113,7 +113,9 @@ fn all(pair: &mut Pair, options: &Options) -> Result<(), Difference> {
 /// What `stocklog.h` says is enough for any call (STOCKLOG_STACK), and some for this program.
 fn stack() -> usize {
     let header = include_str!("../../../../include/stocklog.h");
-    let (_, stated) = header.split_once("STOCKLOG_STACK = ").expect("the header file states the stack");
+    let (_, stated) = header
+        .split_once("STOCKLOG_STACK = ")
+        .expect("the header file states the stack");
     let digits: String = stated.chars().take_while(char::is_ascii_digit).collect();
     digits.parse::<usize>().expect("a number") + 262_144
 }
