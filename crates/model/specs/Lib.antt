@@ -12,4 +12,5 @@ pub mod Run
 pub mod Claims
 pub mod Report
 pub mod Worked
+pub mod Literal
 pub mod Samples
