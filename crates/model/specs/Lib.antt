@@ -14,4 +14,5 @@ pub mod Conditions
 pub mod Claims
 pub mod Report
 pub mod Worked
+pub mod Literal
 pub mod Samples

@@ -28,7 +28,7 @@ use Rattle.model.specs.Replica.{Left, openFresh, openAt, playCall, readC
 use Rattle.model.specs.Run.{Run, start, current, accept, runAt}
 use Rattle.model.specs.Histories.{Lent, inLog, empty, after, grown, feed, History, wholeLog, stood, Carried, carried, Opening, fresh, atCheckpoint, opened, hosts, shown, cellsWritten}
 use Rattle.model.specs.Claims.{kindGiven, headerObjectsIn}
-use Rattle.model.specs.Worked.{code, put, read, cell}
+use Rattle.model.specs.Worked.{code, tells, sameOffset, put, read, cell}
 
 -- the eight objects with fewer keys, so that every cell can be looked at
 abbrev pub obj : ℕ → ObjectKind → ℕ → Bool → Object
@@ -59,10 +59,6 @@ pub record Sample : Type 0 where
   -- an opening, and plays with their answers
   pub opening : Opening
   pub turns : List Turn
-
-abbrev pub tells : {A : Type 0} → Answer A → Option ℕ
-tells (done a) = none
-tells (refused r) = r .offset
 
 abbrev pub given : {A : Type 0} → Answer A → A → A
 given (done a) d = a
@@ -173,9 +169,6 @@ turnsHold h ran whole r (t ∷ ts) =
 abbrev pub showsHold : Sample → History → Log → Option Carried → Bool
 showsHold m h whole none = isEmpty (m .turns)
 showsHold m h whole (some r) = let fed = feed small (empty (h .bytes)) (h .requests) in turnsHold h (λ p. runAt p start fed) whole r (m .turns)
-
-abbrev pub sameOffset : Option ℕ → Option ℕ → Bool
-sameOffset x y = sameContent x y
 
 -- the history of a sample, in five slots of junk
 abbrev pub historyOf : Sample → History

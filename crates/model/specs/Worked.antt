@@ -1,5 +1,5 @@
 -- Document 01, "Worked logs": the lines marked (P) as one table, and one fact that covers all its rows.
-use Prim.Native.Nat.{ℕ, _*_}
+use Prim.Native.Nat.{ℕ, _-_, _*_}
 use mathlib.Core.Path.{_≡_, refl}
 use mathlib.Core.Bool.{Bool, true, false, cond, _&&_, Bool·beq}
 use mathlib.Core.List.{List, [], _∷_, _++_}
@@ -12,15 +12,15 @@ use Rattle.lists.specs.Rows.{values, joined}
 use Rattle.lists.specs.First.{first, firstFrom}
 use Rattle.lists.specs.Equal.{eqList}
 use Rattle.lists.specs.Sets.{all}
-use Rattle.model.specs.Objects.{depots, isObject, isCell, isMarked, hosted}
+use Rattle.model.specs.Objects.{depots, everything, isObject, isCell, isMarked, hosted}
 use Rattle.model.specs.Entries.{checkpoint, Log, writesOf, closed, decided, headerObjects, numberOf, earlier}
 use Rattle.model.specs.Slot.{writeBytes, writeAt, readBytes, readAt, savedBytes, savedAt, itemBytes, itemCount, headerOf, slotOf, decode, slot, logIn}
 use Rattle.model.specs.Rules.{okEntry, lowest, lowestBad, okWrite, okWrites, okRead, okReads, okSaved, narrow, goodAt}
-use Rattle.model.specs.Table.{Cell, cellAt, cellBytes, cellsOf, tableWith, apply, savedOf, cellOf, lookup, store}
+use Rattle.model.specs.Table.{Cell, cellSize, cellAt, cellBytes, cellsOf, tableWith, apply, savedOf, cellOf, lookup, store}
 use Rattle.model.specs.Play.{play, commitsOver, step}
 use Rattle.model.specs.Answers.{Answer, done, refused, badFrame}
-use Rattle.model.specs.Append.{Request, update, commits, decides, entryOf, ownTests, append}
-use Rattle.model.specs.Replica.{Left, playCall, audit}
+use Rattle.model.specs.Append.{Replica, Request, update, commits, decides, entryOf, ownTests, append}
+use Rattle.model.specs.Replica.{Left, unopened, openFresh, playCall, sameContent, audit}
 use Rattle.model.specs.Report.{Outcome, outcomes, report}
 use Rattle.model.specs.Histories.{Lent, inLog, empty, grown}
 
@@ -46,21 +46,45 @@ bench v = update 0 (put 2 7 43) ∷ update 9 (put 2 7 42) ∷ update 10 (put 2 7
 abbrev pub sparse : Log
 sparse = record { size = 0; used = []; tail = 65537; entry = λ o. checkpoint (cond (eqb o 0) 2 1) [] }
 
+-- What a call on a replica answers (0 for done), the offset that it tells, and the position and the cells that it leaves.
+pub record Ends : Type 0 where
+  pub answers : ℕ
+  pub told : Option ℕ
+  pub position : ℕ
+  pub cells : List Cell
+
+-- done at a position; refused, telling no offset
+abbrev pub ends : ℕ → List Cell → Ends
+ends p cs = record { answers = 0; told = none; position = p; cells = cs }
+
+abbrev pub stops : ℕ → ℕ → List Cell → Ends
+stops c p cs = record { answers = c; told = none; position = p; cells = cs }
+
 -- The table's rows.
 pub data Row : Type 0 where
   -- the appends, an offset, and the 12 bytes of the entry's first header
   header : List Request → ℕ → List ℕ → Row
   -- an offset, and the 12 bytes of object 2's header there, its only earlier entry being 0
   far : ℕ → List ℕ → Row
-  -- the appends, the bytes of the table, and what the audit answers and prints
-  audited : List Request → ℕ → ℕ → List Outcome → List Cell → Row
-  -- the appends, a hosted set, the bytes of the table, and the answer, position and cells of a play to the tail
-  player : List Request → ℕ → ℕ → ℕ → ℕ → List Cell → Row
+  -- the appends and the bytes of the scratch table: the audit passes, and what is printed
+  printed : List Request → ℕ → List Outcome → List Cell → Row
+  -- the appends, the bytes of the scratch table, and what the audit answers, tells and leaves
+  audited : List Request → ℕ → Ends → Row
+  -- the appends, a hosted set, the bytes of the table, and what a play of a fresh replica to the tail answers, tells and leaves
+  player : List Request → ℕ → ℕ → Ends → Row
 
 -- 0 for done, else the number of a refusal
 abbrev pub code : {A : Type 0} → Answer A → ℕ
 code (done a) = 0
 code (refused r) = r .number
+
+-- the offset that a refusal tells
+abbrev pub tells : {A : Type 0} → Answer A → Option ℕ
+tells (done a) = none
+tells (refused r) = r .offset
+
+abbrev pub sameOffset : Option ℕ → Option ℕ → Bool
+sameOffset x y = sameContent x y
 
 abbrev pub sameOutcomes : List Outcome → List Outcome → Bool
 sameOutcomes [] [] = true
@@ -71,22 +95,33 @@ sameOutcomes (x ∷ xs) (y ∷ ys) = eqb x.offset y.offset && eqb x.number y.num
 abbrev pub sameCells : List Cell → List Cell → Bool
 sameCells cs ds = eqList (joined cellBytes cs) (joined cellBytes ds)
 
+-- a lent table of n bytes (here 7)
+abbrev pub lentTable : ℕ → List ℕ
+lentTable n = replicate n 7
+
+abbrev pub playIn : Lent → List ℕ → Answer Replica → Left
+playIn l table (done r) = playCall depots (inLog l) r table (l .tail)
+playIn l table (refused r) = unopened r table
+
 -- a fresh replica of this set played to the tail over a table of n bytes
 abbrev pub freshTo : Lent → ℕ → ℕ → Left
-freshTo l set n = playCall depots (inLog l) (record { hosting = set; position = 0; count = 0 }) (replicate n 7) (l .tail)
+freshTo l set n = playIn l (lentTable n) (openFresh set)
 
-abbrev pub leftIs : Left → ℕ → ℕ → List Cell → Bool
-leftIs x c p cs = eqb (code (x .answer)) c && eqb (x .replica .position) p && sameCells (cellsOf (x .table) (x .replica .count)) cs
+-- the whole record and the whole table of n bytes: the cells in order of first writing, the bytes past them untouched
+abbrev pub leftIs : ℕ → ℕ → Left → Ends → Bool
+leftIs set n x e = eqb (code (x .answer)) (e .answers) && sameOffset (tells (x .answer)) (e .told)
+    && eqb (x .replica .hosting) set && eqb (x .replica .position) (e .position) && eqb (x .replica .count) (length (e .cells))
+    && eqList (x .table) (joined cellBytes (e .cells) ++ lentTable (n - cellSize * length (e .cells)))
 
-pub rowHolds : Row → Bool
+unfoldable pub rowHolds : Row → Bool
 rowHolds (header qs o h) = let l = logBy 6 qs in eqList (take 12 (drop 8 (slot (l .bytes) o))) h
 rowHolds (far p h) = eqList (headerOf sparse p 2) h
-rowHolds (audited qs n c os cs) =
+rowHolds (printed qs n os cs) =
     let l = logBy 6 qs in
-    let a = audit depots (inLog l) (replicate n 7) in
-    let r = report depots (inLog l) (replicate n 7) in
-    eqb (code (a .answer)) c && eqb (a .replica .position) (length qs) && sameOutcomes (r .commits) os && sameCells (r .cells) cs
-rowHolds (player qs set n c p cs) = let l = logBy 6 qs in leftIs (freshTo l set n) c p cs
+    let r = report depots (inLog l) (lentTable n) in
+    leftIs (everything depots) n (audit depots (inLog l) (lentTable n)) (ends (length qs) cs) && sameOutcomes (r .commits) os && sameCells (r .cells) cs
+rowHolds (audited qs n e) = let l = logBy 6 qs in leftIs (everything depots) n (audit depots (inLog l) (lentTable n)) e
+rowHolds (player qs set n e) = let l = logBy 6 qs in leftIs set n (freshTo l set n) e
 
 abbrev pub line : ℕ → ℕ → Bool → Outcome
 line o n b = record { offset = o; number = n; commits = b }
@@ -100,7 +135,7 @@ only5 = update 9 (put 5 1 6) ∷ commits 9 (read 2 7 0) ∷ []
 abbrev pub rows : List Row
 rows =
     -- "Empty log: audit passes, no cells."
-    audited [] 48 0 [] []
+    printed [] 48 [] []
     -- "Bench entry 0: distances 0 0 0 0." "Entry 4: 1 2 3 4." "A sixth entry of object 2, at 5: 1 2 3 4."
     ∷ header (bench 1) 0 (0 ∷ 0 ∷ 0 ∷ 2 ∷ 0 ∷ 0 ∷ 0 ∷ 0 ∷ 0 ∷ 0 ∷ 0 ∷ 0 ∷ [])
     ∷ header (bench 1) 4 (0 ∷ 0 ∷ 0 ∷ 2 ∷ 0 ∷ 1 ∷ 0 ∷ 2 ∷ 0 ∷ 3 ∷ 0 ∷ 4 ∷ [])
@@ -109,19 +144,21 @@ rows =
     ∷ far 65535 (0 ∷ 0 ∷ 0 ∷ 2 ∷ 0xFF ∷ 0xFF ∷ 0 ∷ 0 ∷ 0 ∷ 0 ∷ 0 ∷ 0 ∷ [])
     ∷ far 65536 (0x80 ∷ 0 ∷ 0 ∷ 2 ∷ 0 ∷ 0 ∷ 0 ∷ 0 ∷ 0 ∷ 0 ∷ 0 ∷ 0 ∷ [])
     -- "Bench log as printed." "With read version 0 at entry 3: 9 aborts, 10 commits, value 40, version 5."
-    ∷ audited (bench 1) 48 0 (line 3 9 true ∷ line 4 10 false ∷ []) (cell 2 7 (some 42) 4 ∷ [])
-    ∷ audited (bench 0) 48 0 (line 3 9 false ∷ line 4 10 true ∷ []) (cell 2 7 (some 40) 5 ∷ [])
+    ∷ printed (bench 1) 48 (line 3 9 true ∷ line 4 10 false ∷ []) (cell 2 7 (some 42) 4 ∷ [])
+    ∷ printed (bench 0) 48 (line 3 9 false ∷ line 4 10 true ∷ []) (cell 2 7 (some 40) 5 ∷ [])
     -- "Put at 0, remove at 1: removed, version 2; a read with version 0 aborts."
-    ∷ audited (update 0 (put 2 7 43) ∷ update 0 (remove 2 7) ∷ update 9 (put 2 7 1) ∷ commits 9 (read 2 7 0) ∷ []) 48 0
+    ∷ printed (update 0 (put 2 7 43) ∷ update 0 (remove 2 7) ∷ update 9 (put 2 7 1) ∷ commits 9 (read 2 7 0) ∷ []) 48
     (line 3 9 false ∷ []) (cell 2 7 none 2 ∷ [])
     -- "Hosting object 5, a commit reading (2,7) and writing (5,1): 12." "With its decision above: played."
-    ∷ player only5 16 48 12 1 []
-    ∷ player (only5 ++ (decides 1 1 ∷ [])) 16 48 0 3 (cell 5 1 (some 6) 2 ∷ [])
-    -- "Table of 23 bytes: 13 at offset 0 of the bench log; 24 bytes: done."
-    ∷ player (bench 1) 2 23 13 0 []
-    ∷ player (bench 1) 2 24 0 5 (cell 2 7 (some 42) 4 ∷ [])
+    ∷ player only5 16 48 (stops 12 1 [])
+    ∷ player (only5 ++ (decides 1 1 ∷ [])) 16 48 (ends 3 (cell 5 1 (some 6) 2 ∷ []))
+    -- "Table of 23 bytes: 13 at offset 0 of the bench log; 24 bytes: done.": of a play, and of the audit, which tells the offset
+    ∷ player (bench 1) 2 23 (stops 13 0 [])
+    ∷ audited (bench 1) 23 (record { answers = 13; told = some 0; position = 0; cells = [] })
+    ∷ player (bench 1) 2 24 (ends 5 (cell 2 7 (some 42) 4 ∷ []))
+    ∷ audited (bench 1) 24 (ends 5 (cell 2 7 (some 42) 4 ∷ []))
     ∷ []
 
 pub worked : all rowHolds rows ≡ true
-unfolding rowHolds beAt bytesOf splice values joined first firstFrom eqList writesOf closed decided headerObjects numberOf earlier writeBytes writeAt readBytes readAt savedBytes savedAt itemBytes itemCount headerOf slotOf decode slot logIn okEntry lowest lowestBad cellAt cellBytes cellsOf tableWith apply savedOf play commitsOver entryOf ownTests append playCall audit outcomes report grown isObject isCell isMarked hosted okWrite okWrites okRead okReads okSaved narrow goodAt lookup store step badFrame
+unfolding rowHolds beAt bytesOf splice values joined first firstFrom eqList writesOf closed decided headerObjects numberOf earlier writeBytes writeAt readBytes readAt savedBytes savedAt itemBytes itemCount headerOf slotOf decode slot logIn okEntry lowest lowestBad cellAt cellBytes cellsOf tableWith apply savedOf play commitsOver entryOf ownTests append openFresh playCall audit outcomes report grown isObject isCell isMarked hosted okWrite okWrites okRead okReads okSaved narrow goodAt lookup store step badFrame
 worked = refl

@@ -11,8 +11,8 @@ use Rattle.lists.specs.Picks.{picks}
 use Rattle.model.specs.Reading.{Next, Listed, streamNext, streamList, offsetsOf}
 use Rattle.model.specs.Append.{Replica, Request, update, commits, decides, saves, append}
 use Rattle.model.specs.Histories.{Lent, inLog, empty, grown}
-use Rattle.model.specs.Worked.{code, put, read}
-use Rattle.model.specs.Samples.{small, tells, sameOffset}
+use Rattle.model.specs.Worked.{code, tells, sameOffset, put, read}
+use Rattle.model.specs.Samples.{small}
 use Rattle.lists.specs.Bytes.{beAt, bytesOf}
 use Rattle.lists.specs.Splice.{splice}
 use Rattle.lists.specs.Rows.{values, joined}
