@@ -35,13 +35,13 @@ module _ (log : Lent) where
 
   pub entry-promise : (o : ℕ) (c : EntryCall log o) → foundIn (c .call .answer) ≡ entryCall depots (inLog log) o
   entry-promise o c =
-      c .call .learnt
+      c .call .learnt .0
       ∙ ap (λ (l : Lent). entryCall depots (inLog l) (c .call .given .1 .1 .0 .0)) (lent _ _ (c .bytes) (c .tail))
       ∙ ap (entryCall depots (inLog log)) (c .at)
 
   pub items-promise : (o : ℕ) (c : ItemsCall log o) → part c ≡ itemList depots (inLog log) o
   items-promise o c =
-      c .call .learnt
+      c .call .learnt .0
       ∙ ap (λ (l : Lent). itemList depots (inLog l) (c .call .given .1 .1 .0 .0)) (lent _ _ (c .bytes) (c .tail))
       ∙ ap (itemList depots (inLog log)) (c .at)
 

@@ -1,5 +1,6 @@
-// The leaves: integers in bytes, a type for each kind of number, marks, header words and hosted sets, the table of objects.
+// The leaves: integers in bytes, a type for each kind of number, marks, header words and hosted sets, what a cell holds, the table of objects.
 pub mod bytes;
+pub mod cells;
 pub mod marks;
 pub mod names;
 pub mod objects;

@@ -1,17 +1,20 @@
 // The lines of the cells: object, key, value or "-", version.
+use codec::cells::Content;
+use codec::cells::Written;
 use codec::names::ObjectId;
 use records::Record;
 use replica::cells::Reading;
-use table::rows::Content;
 use table::rows::Held;
 
-fn content_line(id: ObjectId, key: u32, c: Content) {
+fn content_line(id: ObjectId, key: u32, c: Written) {
     printing::number(printing::wide(id.0));
     printing::next(printing::wide(key));
-    if c.removed {
-        io::write_all(1, b" -");
-    } else {
-        printing::next(printing::wide(c.value));
+    let content = c.content;
+    match content {
+        Content::Removed => {
+            io::write_all(1, b" -");
+        }
+        Content::Value(v) => printing::next(printing::wide(v)),
     }
     printing::next(c.version.0);
     printing::line_end();

@@ -7,7 +7,6 @@ ghost use Rattle.codec.specs.Marks.{kindOf};
 ghost use Rattle.entries.specs.Answers.{headerOf, infoOf, foundIn};
 ghost use Rattle.stocklog.specs.Replies.{reply, coded, noValues, infoValues, itemsTold, entryReply, nth, headerIn, headerCall, headerValues, headerReply, itemsReply, partSaid};
 ghost use Rattle.stocklog.specs.Numbers.{numbersIn};
-ghost use Rattle.stocklog.specs.Entry.{fewOf};
 use crate::numbers::Numbers;
 use answers::Refusal;
 use codec::marks::Mark;
@@ -29,16 +28,6 @@ fn kind_of(m: Mark) -> u64
     }
 }
 
-// How many of the four headers that the entry call answers count.
-fn few(n: u32) -> u64
-    ensures { λ r. ⌜ r ≡ fewOf n ⌝ }
-{
-    if n < 4 {
-        return n as u64;
-    }
-    4
-}
-
 fn of_entry(f: Found) -> Numbers
     ensures { λ n. ⌜ numbersIn n ≡ coded infoValues noValues (foundIn f) ⌝ }
 {
@@ -46,7 +35,7 @@ fn of_entry(f: Found) -> Numbers
         Found::Entry(i) => {
             let kind = i.kind;
             let number = i.number;
-            crate::numbers::done(kind_of(kind), number.0 as u64, few(i.headers))
+            crate::numbers::done(kind_of(kind), number.0 as u64, i.headers as u64)
         }
         Found::Refused(r) => crate::numbers::refusal(r, 0, 0, 0),
     }
@@ -78,7 +67,7 @@ fn of_header(h: Header) -> Numbers
     crate::numbers::done(id.0 as u64, h.format as u64, h.pointer)
 }
 
-// One of the headers by its place, or 3.
+// One of the headers by its place, or 3. No entry has a fifth: it would be zero.
 fn of_place(i: Info, place: u32) -> Numbers
     ensures { λ n. ⌜ numbersIn n ≡ headerReply (nth (infoOf i .headers) place) ⌝ }
 {
@@ -90,7 +79,7 @@ fn of_place(i: Info, place: u32) -> Numbers
         1 => of_header(i.second),
         2 => of_header(i.third),
         3 => of_header(i.fourth),
-        _ => crate::numbers::refusal(Refusal::Request, 0, 0, 0),
+        _ => crate::numbers::done(0, 0, 0),
     }
 }
 

@@ -1,8 +1,10 @@
 // The calls on a replica, and the audit. A record comes as three numbers and goes out as three numbers.
 ghost use mathlib.Core.Path.{_≡_};
+ghost use mathlib.Core.Option.{some};
 ghost use Rattle.model.specs.Objects.{depots};
 ghost use Rattle.model.specs.Slot.{logOf};
 ghost use Rattle.model.specs.Replica.{openFresh, openAt, playCall, readCell, audit};
+ghost use Rattle.codec.specs.Cells.{heldOf};
 ghost use Rattle.entries.specs.Answers.{checkedIn};
 ghost use Rattle.records.specs.Record.{replicaIn};
 ghost use Rattle.replica.specs.Answers.{openedIn, readIn};
@@ -10,6 +12,8 @@ ghost use Rattle.table.specs.Rows.{heldIn};
 ghost use Rattle.stocklog.specs.Replies.{reply, openReply, standReply, leftReply, cellValues, cellReply};
 ghost use Rattle.stocklog.specs.Numbers.{numbersIn};
 use crate::numbers::Numbers;
+use codec::cells::Content;
+use codec::cells::Written;
 use codec::names::ObjectId;
 use entries::calls::Checked;
 use records::Record;
@@ -85,19 +89,24 @@ pub extern "C" fn stocklog_play(
     crate::numbers::put(out, of_left(l))
 }
 
+fn of_written(w: Written) -> Numbers
+    ensures { λ m. ⌜ numbersIn m ≡ reply 0 (cellValues (some (heldOf w))) 0 ⌝ }
+{
+    let version = w.version;
+    let c = w.content;
+    match c {
+        Content::Removed => crate::numbers::done(2, 0, version.0),
+        Content::Value(v) => crate::numbers::done(1, v as u64, version.0),
+    }
+}
+
 // What a cell holds: 0 never written, 1 holds a value, 2 removed; the value; the version.
 fn of_held(h: Held) -> Numbers
     ensures { λ m. ⌜ numbersIn m ≡ reply 0 (cellValues (heldIn h)) 0 ⌝ }
 {
     match h {
         Held::Never => crate::numbers::done(0, 0, 0),
-        Held::Written(x) => {
-            let version = x.version;
-            if x.removed {
-                return crate::numbers::done(2, 0, version.0);
-            }
-            crate::numbers::done(1, x.value as u64, version.0)
-        }
+        Held::Written(w) => of_written(w),
     }
 }
 

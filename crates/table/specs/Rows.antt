@@ -5,8 +5,8 @@ use mathlib.Core.Option.{Option, none, some}
 use Prim.Native.Nat.{ℕ, zero, suc}
 use Rattle.model.specs.Entries.{Held}
 use Rattle.model.specs.Table.{Cell, isOf}
+use Rattle.codec.specs.Cells.{heldOf}
 use Rattle.table.specs.declared.rows.Row.{Row}
-use Rattle.table.specs.declared.rows.Content.{Content}
 use Rattle.table.specs.declared.rows.Held as code
 use Rattle.table.specs.declared.rows.Held.the-variants.{Never, Written}
 
@@ -22,9 +22,6 @@ rowIn (c ∷ cs) o k = cond (isOf o k c) 1 (further (rowIn cs o k))
 
 abbrev pub cellIn : Row → Cell
 cellIn r = record { object = r .object .0; key = r .key; value = r .value; present = r .present; version = r .version .0 }
-
-abbrev pub heldOf : Content → Held
-heldOf h = record { version = h .version .0; content = cond (h .removed) none (some (h .value)) }
 
 abbrev pub heldIn : code.Held → Option Held
 heldIn Never = none

@@ -1,21 +1,24 @@
 -- The bytes of a table after a cell is stored: one row put in is the table with the cells after the store. A row that is there
 -- is replaced between those before and after it, a new one follows the last.
-use mathlib.Core.Path.{_≡_, refl, ap, ap₂, sym, _∙_}
-use mathlib.Core.Bool.{Bool, true, cond}
-use mathlib.Core.Option.{some}
+use mathlib.Core.Path.{_≡_, refl, ap, ap₂, sym, subst, _∙_}
+use mathlib.Core.Bool.{Bool, true, false, cond}
+use mathlib.Core.Option.{none, some}
 use mathlib.Core.List.{List, [], _∷_, _++_, append-assoc}
 use Prim.Native.Nat.{ℕ, zero, suc, _+_, _-_, _*_, _≤_, _<_}
 use native.Mathlib.Nat.{zero-add}
 use native.Mathlib.Omega.{arith}
-use lib.Dec.{ltb}
+use lib.Dec.{eqb, ltb}
 use lib.ListN.{length, getD, take, drop, set, length-append, length-set, length-drop}
 use lib.Seq.{drop-at, take-at, split-at, set-split, length-take-le, drop-drop}
+use Rattle.lists.specs.Tests.{and-l, and-r, ands, both}
 use Rattle.lists.specs.Sets.{all}
 use Rattle.lists.specs.Bytes.{bytesOf, length-bytesOf}
 use Rattle.lists.specs.Rows.{values, joined, length-values, getD-values, joined-append}
 use Rattle.lists.specs.Splice.{splice, splice-then}
 use Rattle.model.specs.Entries.{Held}
-use Rattle.model.specs.Table.{Cell, cellAt, cellBytes, cellsOf, tableWith, heldBy, lookup, cellOf, store}
+use Rattle.model.specs.Slot.{valueField}
+use Rattle.model.specs.Rules.{fits}
+use Rattle.model.specs.Table.{Cell, cellAt, cellBytes, cellsOf, tableWith, isOf, heldBy, lookup, cellOf, store}
 use Rattle.laws.proofs.Items.{fitsCell, length-cell}
 use Rattle.laws.proofs.Tables.{length-cells, length-stored, cells-back, table-back, cells-fit}
 use Rattle.laws.proofs.Stored.{bytes-all}
@@ -72,6 +75,23 @@ with-mid : (t : List ℕ) (p : List Cell) (c : Cell) (q : List Cell) (n : ℕ) �
 unfolding tableWith joined
 with-mid t p c q n e =
     ap₂ (λ (a b : List ℕ). a ++ b) (joined-append cellBytes p (c ∷ q)) (ap (λ (m : ℕ). drop (24 * m) t) e) ∙ simp append-assoc
+
+-- what a cell whose fields fit holds
+held-fits : (c : Cell) → fitsCell c ≡ true → fits 4 (valueField (heldBy c .content)) ≡ true
+held-fits c f = go (eqb c.present 1)
+  where
+    go : (b : Bool) → fits 4 (valueField (cond b (some (c .value)) none)) ≡ true
+    go true = search (ands, f)
+    go false = refl
+
+lookup-fits : (cs : List Cell) → all fitsCell cs ≡ true → (o k : ℕ) (h : Held) → lookup cs o k ≡ some h → fits 4 (valueField (h .content)) ≡ true
+unfolding lookup
+lookup-fits [] a o k h e = let z : _≡_ {A = ℕ} 0 1 = cc in absurd (omega arith)
+lookup-fits (c ∷ cs) a o k h e = go (isOf o k c) e (λ f. lookup-fits cs (and-r (fitsCell c) (all fitsCell cs) a) o k h f)
+  where
+    go : (b : Bool) → cond b (some (heldBy c)) (lookup cs o k) ≡ some h → (lookup cs o k ≡ some h → fits 4 (valueField (h .content)) ≡ true) → fits 4 (valueField (h .content)) ≡ true
+    go true e ih = let p : heldBy c ≡ h = cc in subst (λ (x : Held). fits 4 (valueField (x .content)) ≡ true) p (held-fits c (and-l (fitsCell c) (all fitsCell cs) a))
+    go false e ih = ih e
 
 module _ (t : List ℕ) (bytes : all (λ x. ltb x 256) t ≡ true) (count : ℕ) (room : 24 * count ≤ length t) where
   pub row-replaced : (i : ℕ) (c : Cell) → i < count → splice t (24 * i) (cellBytes c) ≡ tableWith t (set (cellsOf t count) i c)
@@ -138,6 +158,10 @@ module _ (t : List ℕ) (bytes : all (λ x. ltb x 256) t ≡ true) (count : ℕ)
   pub stored-back : (o k : ℕ) (h : Held) → fitsCell (cellOf o k h) ≡ true
       → cellsOf (tableWith t (store (cellsOf t count) o k h)) (length (store (cellsOf t count) o k h)) ≡ store (cellsOf t count) o k h
   stored-back o k h f = cells-back t (store (cellsOf t count) o k h) (all-store fitsCell (cellsOf t count) o k h (cells-fit t bytes count) f)
+
+  -- the value of a cell fits its bytes
+  pub value-fits : (o k : ℕ) {h : Held} → lookup (cellsOf t count) o k ≡ some h → fits 4 (valueField (h .content)) ≡ true
+  value-fits o k {h} e = lookup-fits (cellsOf t count) (cells-fit t bytes count) o k h e
 
 -- ---- the bytes of a table with cells
 

@@ -8,7 +8,6 @@ use Rattle.stocklog.proofs.entry.of_entry.Statement.{statement}
 use Rattle.stocklog.proofs.entry.of_entry.Tie as tie
 use Rattle.stocklog.proofs.entry.of_entry.Reads as reads
 use Rattle.stocklog.proofs.entry.of_entry.Lts as lts
-use Rattle.stocklog.proofs.entry.few.Reads as few-reads
 use Rattle.stocklog.proofs.entry.kind_of.Reads as kind-of-reads
 use Rattle.stocklog.proofs.numbers.done.Reads as done-reads
 use Rattle.stocklog.proofs.numbers.refusal.Reads as refusal-reads
@@ -26,8 +25,8 @@ cast-done : tie.Need-cast-done
 cast-done c = search needs
 
 -- src/entry.rt:50:66
-few-requires : tie.Need-few-requires
-few-requires c κs = search needs
+cast-done-2 : tie.Need-cast-done-2
+cast-done-2 c = search needs
 
 -- src/entry.rt:50:13
 done-requires : tie.Need-done-requires
@@ -47,7 +46,7 @@ returns c =
     let k = c .before .before .before .before .before .before in
     let i = k .f .given .0 .0 in
     c .done .ensures
-    ∙ entry-said i (c .before .before .before .kind-of .ensures) (c .before .few .ensures)
+    ∙ entry-said i (c .before .before .before .kind-of .ensures)
     ∙ sym (ap (λ x. coded infoValues noValues (foundIn x)) (k .f .given .1))
 
 -- src/entry.rt:43:1
@@ -61,7 +60,7 @@ of-entry-spec =
     enum-known-f
     kind-of-requires
     cast-done
-    few-requires
+    cast-done-2
     done-requires
     enum-known-f-2
     refusal-requires

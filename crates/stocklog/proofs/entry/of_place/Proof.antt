@@ -8,6 +8,7 @@ use Rattle.stocklog.proofs.entry.of_place.Tie as tie
 use Rattle.stocklog.proofs.entry.of_place.Reads as reads
 use Rattle.stocklog.proofs.entry.of_place.Lts as lts
 use Rattle.stocklog.proofs.entry.of_header.Reads as of-header-reads
+use Rattle.stocklog.proofs.numbers.done.Reads as done-reads
 use Rattle.stocklog.proofs.numbers.refusal.Reads as refusal-reads
 
 -- src/entry.rt:84:9
@@ -37,8 +38,8 @@ of-header-requires-4 : tie.Need-of-header-requires-4
 of-header-requires-4 c κs = search needs
 
 -- src/entry.rt:91:14
-refusal-requires-2 : tie.Need-refusal-requires-2
-refusal-requires-2 c κs = search needs
+done-requires : tie.Need-done-requires
+done-requires c κs = search needs
 
 -- src/entry.rt:80:1
 returns-2 : tie.Need-returns-2
@@ -70,7 +71,7 @@ returns-6 c =
     let k = c .before .before in
     let a = k .before .before .args in
     let r = c .before .match .rest in
-    c .refusal2 .ensures ∙ ap headerReply (place-fifth (a .i) (a .place) (r .0 .0 .0 .1) (r .0 .0 .1) (r .0 .1) (r .1) (k .if1 .left))
+    c .done .ensures ∙ ap headerReply (place-fifth (a .i) (a .place) (r .0 .0 .0 .1) (r .0 .0 .1) (r .0 .1) (r .1) (k .if1 .left))
 
 pub of-place-spec : {M : Type 1} → statement M
 of-place-spec =
@@ -82,7 +83,7 @@ of-place-spec =
     of-header-requires-2
     of-header-requires-3
     of-header-requires-4
-    refusal-requires-2
+    done-requires
     returns-2
     returns-3
     returns-4

@@ -30,7 +30,7 @@ put-eight-requires c κs = search needs
 -- src/entry.rt:65:1
 returns : tie.Need-returns
 returns c =
-    let e = c .before .before .before .before .entry .ensures in
+    let e = c .before .before .before .before .entry .ensures .0 in
     let said = c .before .before .of-entry .ensures ∙ ap (coded infoValues noValues) e in
     let items = c .before .items-of .ensures ∙ ap itemsTold e in
     c .put-eight .ensures ∙ (λ j. longer (said j) (items j))

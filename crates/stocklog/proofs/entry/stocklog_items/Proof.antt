@@ -38,7 +38,7 @@ returns c =
     let k = c .before .before .before .before in
     let a = k .before .before .before .before .args in
     items-said (a .log .now) (a .tail) (a .offset)
-    (c .put .ensures ∙ c .before .refusal .ensures ∙ sym (ap (λ x. itemsReply (a .offset) (foundIn x)) (k .f .given .1)) ∙ ap (itemsReply (a .offset)) (k .before .before .entry .ensures))
+    (c .put .ensures ∙ c .before .refusal .ensures ∙ sym (ap (λ x. itemsReply (a .offset) (foundIn x)) (k .f .given .1)) ∙ ap (itemsReply (a .offset)) (k .before .before .entry .ensures .0))
 
 -- src/entry.rt:128:22
 enum-known-f-2 : tie.Need-enum-known-f-2
@@ -49,7 +49,7 @@ placed : (c : tie.After-known-told2) → c .before .before .before .before .befo
 placed c =
     let k = c .before in
     let a = k .before .before .before .before .args in
-    entry-placed (a .log .now) (a .tail) (a .offset) (infoOf (k .f2 .given .0 .0)) (sym (k .before .before .entry .ensures) ∙ ap foundIn (k .f2 .given .1))
+    entry-placed (a .log .now) (a .tail) (a .offset) (infoOf (k .f2 .given .0 .0)) (sym (k .before .before .entry .ensures .0) ∙ ap foundIn (k .f2 .given .1))
 
 -- src/entry.rt:129:22
 mul-at : tie.Need-mul-at
@@ -81,7 +81,7 @@ returns-2 c =
     let k = c .before .before .before .before .before in
     let a = k .before .before .before .before .args in
     items-said (a .log .now) (a .tail) (a .offset)
-    (c .put2 .ensures ∙ c .before .done .ensures ∙ sym (ap (λ x. itemsReply (a .offset) (foundIn x)) (k .f2 .given .1)) ∙ ap (itemsReply (a .offset)) (k .before .before .entry .ensures))
+    (c .put2 .ensures ∙ c .before .done .ensures ∙ sym (ap (λ x. itemsReply (a .offset) (foundIn x)) (k .f2 .given .1)) ∙ ap (itemsReply (a .offset)) (k .before .before .entry .ensures .0))
 
 pub stocklog-items-spec : {M : Type 1} → statement M
 stocklog-items-spec =
