@@ -1,6 +1,6 @@
 -- What the worked logs leave open, written out by hand from document 01: all bytes of an entry of each kind and of table cells,
 -- headers whose entries are far apart, and the table of objects. Each is compared with what the definitions give.
-use Prim.Native.Nat.{ℕ, _+_, _*_}
+use Prim.Native.Nat.{ℕ, _+_}
 use mathlib.Core.Path.{_≡_, refl}
 use mathlib.Core.Bool.{Bool, true, false, cond, not, _&&_}
 use mathlib.Core.List.{List, [], _∷_, _++_, map}
@@ -12,7 +12,6 @@ use Rattle.lists.specs.Splice.{splice}
 use Rattle.lists.specs.Rows.{values, joined}
 use Rattle.lists.specs.First.{first, firstFrom}
 use Rattle.lists.specs.Equal.{eqList}
-use Rattle.lists.specs.Sets.{all}
 use Rattle.model.specs.Objects.{Object, ObjectKind, aMap, aRegister, theObjects, depots, ids, isObject, isCell, isMarked, hosted, setOf, everything}
 use Rattle.model.specs.Entries.{Held, Saved, Entry, isNone, numbered, commit, decision, checkpoint, Log, writesOf, closed, decided, headerObjects, numberOf, earlier}
 use Rattle.model.specs.Slot.{valueField, pointers, writeBytes, writeAt, readBytes, readAt, savedBytes, savedAt, itemBytes, itemCount, headerOf, slotOf, decode, slot, logIn}
@@ -31,7 +30,8 @@ zeros n = replicate n 0
 abbrev number : ℕ
 number = 0x0A0B0C0D
 
--- A log with an entry of each kind. Every field that may be of several bytes is.
+-- A log with an entry of each kind. Keys, values and the number are of several bytes; offsets, versions and distances of two bytes are
+-- in `long-written`, which needs a longer log.
 abbrev kinds : List Request
 kinds =
     update 0 (put 5 0x1234 0x01020304 ++ remove 5 0x0102 ++ put 1 0x270F 0xFFFFFFFE ++ put 2 0x01F3 0xA0B0C0D0 ++ put 3 0x0103 0x80)

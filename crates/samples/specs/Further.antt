@@ -1,8 +1,8 @@
 -- Rows beside the worked logs, over the eight objects: what audits and openings tell and leave, byte for byte; the limits of an
 -- entry's items; the order of reads; the present field of a lent table.
-use Prim.Native.Nat.{ℕ, _+_}
+use Prim.Native.Nat.{ℕ}
 use mathlib.Core.Path.{_≡_, refl}
-use mathlib.Core.Bool.{Bool, true, _&&_}
+use mathlib.Core.Bool.{Bool, true, cond, _&&_}
 use mathlib.Core.List.{List, [], _∷_, _++_, map}
 use mathlib.Core.Option.{none, some}
 use lib.Dec.{eqb}
@@ -46,7 +46,8 @@ pub audits-left : all rowHolds audits ≡ true
 unfolding rowHolds beAt bytesOf splice values joined first firstFrom eqList writesOf closed decided headerObjects numberOf earlier writeBytes writeAt readBytes readAt savedBytes savedAt itemBytes itemCount headerOf slotOf decode slot logIn okEntry lowest lowestBad cellAt cellBytes cellsOf tableWith apply savedOf play commitsOver entryOf ownTests append openFresh openAt playCall readCell audit outcomes report grown isObject isCell isMarked hosted okWrite okWrites okRead okReads okSaved narrow goodAt lookup store step badFrame
 audits-left = refl
 
--- 1 and 2 leave the scratch table as it was; 2 tells the lowest bad entry, here a slot of junk
+-- 1 and 2 leave the scratch table as it was. 2 tells the lowest bad entry: a slot of junk at 5; with the first slot cut off, the entry at 0,
+-- whose distance leads below the log.
 pub audits-refused : (let l = logBy 6 (bench 1) in
     leftIs 0 48 (audit depots (logOf (l .bytes) 6) (lentTable 48)) (record { answers = 2; told = some 5; position = 0; cells = [] })
     && leftIs 0 48 (audit depots (logOf (drop 256 (l .bytes)) 5) (lentTable 48)) (record { answers = 2; told = some 0; position = 0; cells = [] })
@@ -116,7 +117,7 @@ lent = joined cellBytes (stored 0 0 ∷ stored 1 1 ∷ stored 2 2 ∷ stored 3 0
 
 abbrev shows : ℕ → Bool
 shows key = isShown (readCell depots (record { hosting = 2; position = 3; count = 6 }) lent 2 key)
-    (some (record { version = 1; content = mathlib.Core.Bool.cond (eqb key 1) (some 9) none }))
+    (some (record { version = 1; content = cond (eqb key 1) (some 9) none }))
 
 abbrev gone : ℕ → List ℕ
 gone key = 0 ∷ 0 ∷ 0 ∷ key ∷ 0 ∷ 0 ∷ 0 ∷ 0 ∷ 0x80 ∷ 0 ∷ 0 ∷ 0 ∷ 0 ∷ 0 ∷ 0 ∷ 1 ∷ []
