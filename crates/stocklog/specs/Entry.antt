@@ -5,7 +5,7 @@ use Prim.Native.Nat.{ℕ, zero, suc, _+_, _≤_, _<_}
 use native.Mathlib.Nat.{add-zero, zero-add}
 use native.Mathlib.Omega.{arith}
 use Rattle.lists.specs.Rows as rows
-use Rattle.model.specs.Answers.{Answer, done, refused}
+use Rattle.model.specs.Answers.{done, refused}
 use Rattle.model.specs.Reading.{Header}
 use Rattle.codec.specs.Marks.{kindOf}
 use Rattle.entries.specs.declared.calls.Info.{Info}
