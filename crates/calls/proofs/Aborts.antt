@@ -1,7 +1,6 @@
 -- A play's call across one commit record, by a replica that hosts all objects read: it aborts exactly on a stale read, since the
 -- call is the model's by its contract.
-use Prim.Native.Nat.{_+_}
-use mathlib.Core.Path.{_≡_, ap, sym, _∙_, subst}
+use mathlib.Core.Path.{ap, sym, _∙_, subst}
 use Rattle.model.specs.Objects.{depots}
 use Rattle.model.specs.Histories.{playOn}
 use Rattle.model.specs.Claims.{AbortsAlone}

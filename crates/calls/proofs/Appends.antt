@@ -24,7 +24,7 @@ use Rattle.entries.specs.Answers.{checkedIn, foundIn, infoOf}
 use Rattle.append.specs.declared.write.Appended.the-variants as appended
 use Rattle.append.specs.Answers.{tailIn}
 use Rattle.calls.specs.Values.{AppendCall, seen, Grows, leftBy, lastLog, EntryCall, ItemsCall, part}
-use Rattle.calls.specs.Claims.{lentAt, Returns, CallsAccept, Wrote, CallsWrite, CallsKeepGood, CallsReadBack, CallsSameBytes}
+use Rattle.calls.specs.Claims.{lentAt, CallsAccept, CallsWrite, CallsKeepGood, CallsReadBack, CallsSameBytes}
 use Rattle.calls.proofs.Promises.{append-promise, check-promise, entry-promise, items-promise}
 use Rattle.calls.proofs.Histories.{lent, requests, left-after, left-grown, history, whole-left}
 

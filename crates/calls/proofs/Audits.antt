@@ -1,6 +1,6 @@
 -- The audit's call: on a log that appends made it answers exactly what the run of those appends says, and on no log does it wait.
 use Prim.Native.Nat.{ℕ}
-use mathlib.Core.Path.{_≡_, ap, sym, _∙_, subst}
+use mathlib.Core.Path.{ap, sym, _∙_, subst}
 use mathlib.Core.List.{List}
 use Rattle.model.specs.Objects.{depots}
 use Rattle.model.specs.Replica.{Left, audit}
@@ -10,7 +10,7 @@ use Rattle.model.specs.Conditions.{Framed}
 use Rattle.model.specs.Claims.{Audits}
 use Rattle.claims.proofs.Depots.{audits-depots, never-waits-depots}
 use Rattle.entries.specs.Answers.{checkedIn}
-use Rattle.calls.specs.Values.{lastLog, ran, scratch, auditLeft}
+use Rattle.calls.specs.Values.{lastLog, ran, scratch}
 use Rattle.calls.specs.Claims.{CallsAudit, CallsNeverWait}
 use Rattle.calls.proofs.Promises.{audit-promise}
 use Rattle.calls.proofs.Histories.{history, whole-left, ran-so}

@@ -3,10 +3,10 @@
 use Prim.Native.Nat.{ℕ, _+_, _<_}
 use mathlib.Core.Path.{_≡_, refl, ap, sym, _∙_, subst}
 use mathlib.Core.Logic.{_↔_}
-use mathlib.Core.Bool.{Bool, true, false}
+use mathlib.Core.Bool.{false}
 use mathlib.Core.List.{List, [], _∷_, _++_, List·Memᴰ}
 use mathlib.Core.Option.{Option, some}
-use Rattle.model.specs.Objects.{theObjects, depots, hosted}
+use Rattle.model.specs.Objects.{theObjects, depots}
 use Rattle.model.specs.Entries.{Read, Held, Claim, commit as commits-at}
 use Rattle.model.specs.Table.{capacity, versionIn}
 use Rattle.model.specs.Answers.{done}
@@ -15,16 +15,15 @@ use Rattle.model.specs.Append.{commits, claimGiven}
 use Rattle.model.specs.Replica as model
 use Rattle.model.specs.Run.{Run}
 use Rattle.model.specs.Histories as model-histories
-use Rattle.model.specs.Histories.{Lent, inLog, isRefused, Accepted, grown, empty, History, wholeLog, stood, ranTo, Passed, Carried, Opening, ifOpened, ifFresh, carried, Play, playOn, played, plays, opened, cellsWritten}
+use Rattle.model.specs.Histories.{Lent, inLog, isRefused, Accepted, grown, History, stood, ranTo, Passed, Carried, Opening, ifOpened, ifFresh, carried, Play, playOn, played, plays, opened, cellsWritten}
 use Rattle.model.specs.Conditions.{Stale, Concerns, Fit, Ended}
 use Rattle.model.specs.Claims.{Waiting, SameOutcome, Shows}
 use Rattle.claims.proofs.Depots.{demand2-depots, demand3-depots}
 use Rattle.entries.specs.Answers.{checkedIn}
 use Rattle.append.specs.Answers.{tailIn}
-use Rattle.records.specs.Record.{replicaIn}
 use Rattle.replica.specs.Answers.{openedIn, readIn}
 use Rattle.calls.specs.Values.{AppendCall, seen, Appends, lastLog, logAfter, ran, AuditCall, scratch, auditLeft, Kept, carry, openLeft, Opens, fresh, atCheckpoint, PlayCall, stopOf, kept, playLeft, Plays, none, more, ReadCall}
-use Rattle.calls.specs.Claims.{hosts, lentAt, Crosses, Behaves, CallsBehave}
+use Rattle.calls.specs.Claims.{hosts, lentAt, Crosses, CallsBehave}
 use Rattle.calls.proofs.Promises.{append-promise, audit-promise, open-promise, play-promise, read-promise, fresh-promise}
 use Rattle.calls.proofs.Histories.{lent, requests, history, requests-split, turn-left, whole-left, stood-left, ran-so}
 

@@ -1,18 +1,14 @@
 -- Demand 1 of the calls: a refused append leaves the bytes that it was given, and what a play on any log leaves, since each is the
 -- model's by its contract.
-use Prim.Native.Nat.{ℕ}
-use mathlib.Core.Path.{_≡_, refl, ap, sym, _∙_, subst}
+use mathlib.Core.Path.{_≡_, ap, sym, _∙_, subst}
 use mathlib.Core.Bool.{true}
-use mathlib.Core.List.{List}
 use Rattle.model.specs.Objects.{depots}
 use Rattle.model.specs.Append as model
-use Rattle.model.specs.Replica.{Left}
-use Rattle.model.specs.Histories.{Lent, isRefused, Carried, playOn}
-use Rattle.model.specs.Conditions.{Playable}
+use Rattle.model.specs.Histories.{Lent, isRefused, playOn}
 use Rattle.model.specs.Claims as model-claims
 use Rattle.claims.proofs.Depots.{demand1-depots}
 use Rattle.append.specs.Answers.{tailIn}
-use Rattle.calls.specs.Values.{AppendCall, seen, Kept, carry, PlayOn, stopOf, kept, playLeft}
+use Rattle.calls.specs.Values.{AppendCall, seen, Kept, carry, PlayOn, stopOf, playLeft}
 use Rattle.calls.specs.Claims.{lentAt, PlayLeaves, CallsDemand1}
 use Rattle.calls.proofs.Promises.{append-promise, play-promise}
 

@@ -6,7 +6,7 @@ use mathlib.Core.List.{List, [], _∷_, _++_, map}
 use lib.ListN.{take}
 use Rattle.model.specs.Objects.{depots}
 use Rattle.model.specs.Append as model
-use Rattle.model.specs.Run.{Fed, Run, start, runAt}
+use Rattle.model.specs.Run.{Fed, start, runAt}
 use Rattle.model.specs.Histories.{Lent, isRefused, tailAfter, after, grown, feed, History, wholeLog, stood, ranTo}
 use Rattle.calls.specs.Values.{AppendCall, seen, tailLeft, Grows, leftBy, Appends, lastLog, logAfter, fedBy, ran}
 use Rattle.calls.proofs.Promises.{append-promise}

@@ -1,24 +1,24 @@
 -- A play in instalments: wherever the first play stopped, it had reached that offset with those cells, and a play from there
 -- goes on as the whole one does. The table's bytes after the first are read back as its cells, since all of them fit their fields.
-use Prim.Native.Nat.{ℕ, zero, suc, _+_, _-_, _*_, _/_, _≤_, _<_, _^_}
+use Prim.Native.Nat.{ℕ, zero, suc, _+_, _-_, _/_, _≤_, _<_}
 use mathlib.Core.Path.{_≡_, refl, ap, sym, _∙_, subst}
 use mathlib.Core.Bool.{Bool, true, false, cond}
 use mathlib.Core.List.{List, [], _∷_, _++_}
 use mathlib.Core.Option.{Option, none, some}
 use native.Mathlib.Omega.{arith}
 use borrow.Author.Tests.{ltb-false, le-ltb}
-use lib.Dec.{eqb, leb, ltb}
+use lib.Dec.{eqb, leb}
 use lib.ListN.{length}
-use Rattle.lists.specs.Tests.{ands, ors, clash, neither}
+use Rattle.lists.specs.Tests.{ands, ors, neither}
 use Rattle.lists.specs.Sets.{all, meets}
 use Rattle.model.specs.Objects.{depots, hosted}
-use Rattle.model.specs.Entries.{Write, Entry, plain, numbered, commit, decision, checkpoint, blank, Effect, effect, Log, writesOf, headerObjects}
+use Rattle.model.specs.Entries.{Write, Entry, plain, numbered, commit, decision, checkpoint, blank, effect, Log, writesOf, headerObjects}
 use Rattle.model.specs.Slot.{logIn}
 use Rattle.model.specs.Rules.{okWrite, okWrites, okEntry, lowestBad}
 use Rattle.model.specs.Table.{Cell, cellsOf, tableWith, capacity, apply}
 use Rattle.model.specs.Play.{Played, going, waits, lacks, cellsIn, versionAt, outcome, make, finish, act, step, andThen, play}
-use Rattle.model.specs.Answers.{Refusal, Answer, done, refused, refuse, firstOf, frameAndEntries, badFrame}
-use Rattle.model.specs.Append.{Replica, badRecord, badReplica}
+use Rattle.model.specs.Answers.{Refusal, done, refuse, frameAndEntries, badFrame}
+use Rattle.model.specs.Append.{Replica, badReplica}
 use Rattle.model.specs.Replica as model
 use Rattle.model.specs.Histories.{inLog, playOn}
 use Rattle.model.specs.Claims.{Bytes}

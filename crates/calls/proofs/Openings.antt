@@ -8,7 +8,7 @@ use Rattle.lists.specs.Tests.{clash}
 use Rattle.model.specs.Objects.{depots}
 use Rattle.model.specs.Answers.{Answer, done, refused}
 use Rattle.model.specs.Append.{Replica}
-use Rattle.model.specs.Replica.{Left, openAt}
+use Rattle.model.specs.Replica.{Left}
 use Rattle.model.specs.Histories.{inLog, isRefused}
 use Rattle.model.specs.Claims.{OpenedAt}
 use Rattle.claims.proofs.Depots.{opens-at-depots}
@@ -19,7 +19,6 @@ use Rattle.records.specs.Record.{replicaIn}
 use Rattle.replica.specs.declared.opening.Opened as opens
 use Rattle.replica.specs.declared.opening.Opened.the-variants as opened
 use Rattle.replica.specs.Answers.{openedIn}
-use Rattle.calls.specs.Values.{openLeft}
 use Rattle.calls.specs.Claims.{CallsOpen}
 use Rattle.calls.proofs.Promises.{fresh-promise, open-promise}
 

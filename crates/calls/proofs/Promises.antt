@@ -1,7 +1,7 @@
 -- What the contracts say of the calls, as equations with the model on the log, the record and the table that a call was made on. Each
 -- is the function's own contract; the calls' arguments are then replaced by what they equal.
 use Prim.Native.Nat.{ℕ}
-use mathlib.Core.Path.{_≡_, refl, ap, sym, _∙_}
+use mathlib.Core.Path.{_≡_, ap, _∙_}
 use mathlib.Core.List.{List}
 use denote.Ref.{now}
 use Rattle.model.specs.Objects.{depots}

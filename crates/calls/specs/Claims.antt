@@ -14,8 +14,8 @@ use Rattle.model.specs.Entries.{Read, Held, Claim, commit as commits-at}
 use Rattle.model.specs.Slot.{slotSize}
 use Rattle.model.specs.Table.{capacity, versionIn}
 use Rattle.model.specs.Answers.{done}
-use Rattle.model.specs.Append.{Request, commits, claimGiven}
-use Rattle.model.specs.Replica.{Left, plainly}
+use Rattle.model.specs.Append.{commits, claimGiven}
+use Rattle.model.specs.Replica.{plainly}
 use Rattle.model.specs.Run.{madeAll}
 use Rattle.model.specs.Histories.{Lent, inLog, isRefused, cellsWritten}
 use Rattle.model.specs.Conditions.{Framed, Stale, Concerns, Blocked, Fit, Playable, Ended, Unstopped}

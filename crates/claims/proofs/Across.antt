@@ -1,10 +1,10 @@
 -- A play across one commit record by a replica that hosts all objects read, on any good log and any table bytes: it decides by its
 -- own cells, so it keeps them where a read is stale, and else makes the number's hosted writes where they have room.
-use Prim.Native.Nat.{ℕ, _+_, _-_, _*_, _<_, _≤_, _^_}
-use mathlib.Core.Path.{_≡_, refl, ap, ap₂, sym, _∙_, subst}
+use Prim.Native.Nat.{ℕ, _+_, _-_, _<_, _≤_, _^_}
+use mathlib.Core.Path.{_≡_, refl, ap, _∙_}
 use mathlib.Core.Bool.{Bool, true, false, cond, _&&_}
 use mathlib.Core.List.{List, [], _∷_, List·Memᴰ, List·Memᴰ·head, List·Memᴰ·tail}
-use mathlib.Core.Option.{Option, none, some}
+use mathlib.Core.Option.{some}
 use native.Mathlib.Omega.{arith}
 use native.Mathlib.Nat.{add-zero}
 use borrow.Author.Tests.{leb-false}
@@ -12,25 +12,25 @@ use lib.Dec.{eqb, leb}
 use lib.ListN.{length}
 use Rattle.lists.specs.Tests.{and-l, and-r, clash}
 use Rattle.lists.specs.Sets.{all, mem, meets}
-use Rattle.model.specs.Objects.{Shape, okShape, hosted}
-use Rattle.model.specs.Entries.{Write, Read, Held, Claim, contentOf, commit, effect, Log, writesOf, headerObjects, commitObjects, decided, readObjects}
+use Rattle.model.specs.Objects.{Shape, okShape}
+use Rattle.model.specs.Entries.{Write, Read, Held, Claim, contentOf, commit, Log, writesOf, headerObjects, commitObjects}
 use Rattle.model.specs.Slot.{logIn}
 use Rattle.model.specs.Rules.{okWrite}
 use Rattle.model.specs.Table.{Cell, Holds, cellsOf, tableWith, capacity, lookup, store, apply}
-use Rattle.model.specs.Play.{Played, going, waits, lacks, commitsOver, alone, make, finish, act, step, play}
+use Rattle.model.specs.Play.{Played, going, lacks, commitsOver, alone, make, finish, step, play}
 use Rattle.model.specs.Answers.{done}
-use Rattle.model.specs.Replica.{Left, plainly, leftBy, leftWith, playFrom}
+use Rattle.model.specs.Replica.{Left, plainly, leftBy}
 use Rattle.model.specs.Run.{written, madeAll}
 use Rattle.model.specs.Histories.{Lent, inLog, isRefused, Carried, playOn, hosts}
-use Rattle.model.specs.Conditions.{Stale, Playable}
-use Rattle.model.specs.Claims.{doneWith, Alone, movedOn, tableHolds, AbortsAlone, ReplicaAborts}
+use Rattle.model.specs.Conditions.{Stale}
+use Rattle.model.specs.Claims.{Alone, tableHolds, AbortsAlone, ReplicaAborts}
 use Rattle.laws.proofs.Items.{fitsCell}
 use Rattle.laws.proofs.Tables.{length-cells, cells-back, table-back, cells-fit}
 use Rattle.laws.proofs.Refusals.{below-good}
 use Rattle.laws.proofs.Appends.{good-kept}
 use Rattle.laws.proofs.Slots.{Kept, writes-ok}
 use Rattle.claims.proofs.Conditions.{words-concerns, words-frame}
-use Rattle.claims.proofs.Counts.{same, put, other-object}
+use Rattle.claims.proofs.Counts.{other-object}
 use Rattle.claims.proofs.Cells.{lookup-store, all-store, write-fitting}
 use Rattle.claims.proofs.Aborts.{stale-refuses, refuses-stale}
 use Rattle.claims.proofs.Audits.{tail-small}

@@ -1,19 +1,19 @@
 -- The conditions in words are what the definitions' tests decide: a frame, a number's writes and commit record, a decision, the
 -- objects of a commit record. Each by induction over the log's entries below a bound, or by arithmetic.
-use Prim.Native.Nat.{ℕ, zero, suc, _*_, _/_, _%_, _<_, _≤_}
+use Prim.Native.Nat.{ℕ, zero, suc, _/_, _%_, _<_}
 use mathlib.Core.Path.{_≡_, refl, ap, sym, _∙_}
 use mathlib.Core.Logic.{_⊎_, inl, inr}
 use mathlib.Core.Bool.{Bool, true, false, cond, not, _||_}
-use mathlib.Core.List.{List, [], _∷_, _++_, List·Memᴰ, List·Memᴰ·append-cases, List·Memᴰ·not-nil, Memᴰ·append-left, Memᴰ·append-right}
+use mathlib.Core.List.{List, [], _++_, List·Memᴰ, List·Memᴰ·append-cases, List·Memᴰ·not-nil, Memᴰ·append-left, Memᴰ·append-right}
 use mathlib.Core.Option.{Option, none, some}
 use native.Mathlib.Omega.{arith}
-use borrow.Author.Tests.{eqb-true, eqb-false, eq-eqb, ltb-true, ltb-false, lt-ltb, le-ltb, not-false}
+use borrow.Author.Tests.{eqb-true, eqb-false, eq-eqb, ltb-false, le-ltb, not-false}
 use lib.Dec.{eqb, ltb}
 use lib.ListN.{length}
 use Rattle.lists.specs.Tests.{ors, neither, clash}
-use Rattle.lists.specs.Sets.{mem, meets, any, ascendingSet, any-set}
+use Rattle.lists.specs.Sets.{mem, meets, any-set}
 use Rattle.lists.specs.Members.{any-in, in-any, mem-map, map-mem}
-use Rattle.model.specs.Entries.{Write, Claim, Entry, plain, numbered, commit, decision, checkpoint, blank, Effect, effect, Log, asideUnder, writesOf, commitIn, ifSome, closed, decides, decided, isNone, writtenObjects, commitObjects}
+use Rattle.model.specs.Entries.{Write, Entry, plain, numbered, commit, decision, checkpoint, blank, effect, Log, asideUnder, writesOf, commitIn, ifSome, closed, decides, decided, isNone, writtenObjects, commitObjects}
 use Rattle.model.specs.Slot.{logIn}
 use Rattle.model.specs.Answers.{slots, badFrame}
 use Rattle.model.specs.Histories.{Lent, inLog}

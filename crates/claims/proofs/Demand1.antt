@@ -1,6 +1,6 @@
 -- Demand 1, of the definitions: a refused append leaves the bytes that it was given, and what a play on any log leaves.
-use mathlib.Core.Path.{_≡_, refl, ap, sym}
-use mathlib.Core.Bool.{Bool, true, false}
+use mathlib.Core.Path.{_≡_, refl, sym}
+use mathlib.Core.Bool.{true}
 use Prim.Native.Nat.{ℕ}
 use Rattle.lists.specs.Tests.{clash}
 use Rattle.model.specs.Objects.{Shape}

@@ -6,21 +6,20 @@ use mathlib.Core.Bool.{Bool, true, false}
 use mathlib.Core.List.{List, [], _∷_, _++_}
 use mathlib.Core.Option.{Option, none, some}
 use native.Mathlib.Omega.{arith}
-use borrow.Author.Tests.{eqb-true, eqb-false, ne-eqb, ltb-false, le-ltb}
+use borrow.Author.Tests.{eqb-false, ne-eqb, ltb-false, le-ltb}
 use lib.Dec.{eqb, ltb}
-use lib.ListN.{length}
 use Rattle.lists.specs.Tests.{ors, neither, clash}
-use Rattle.model.specs.Objects.{Shape, hosted}
+use Rattle.model.specs.Objects.{Shape}
 use Rattle.model.specs.Entries.{Log}
 use Rattle.model.specs.Slot.{logIn}
 use Rattle.model.specs.Rules.{lowestBad}
-use Rattle.model.specs.Table.{Cell, cellsOf, tableWith, capacity}
-use Rattle.model.specs.Play.{Played, going, waits, lacks, cellsIn, play}
-use Rattle.model.specs.Answers.{Refusal, done, refused, refuse, refuseAt, firstOf, badFrame, frameAndEntries}
+use Rattle.model.specs.Table.{cellsOf, capacity}
+use Rattle.model.specs.Play.{Played, going, waits, lacks, cellsIn}
+use Rattle.model.specs.Answers.{Refusal, refused, refuse, refuseAt, firstOf, badFrame, frameAndEntries}
 use Rattle.model.specs.Append.{Replica, badReplica}
 use Rattle.model.specs.Replica.{Left, plainly, badStop, playRefusal, leftBy, playGiven, playFrom, playCall}
 use Rattle.model.specs.Histories.{Lent, inLog, isRefused, Carried, playOn, hosts}
-use Rattle.model.specs.Conditions.{Blocked, Fit, Playable, Ended, there, waiting, noRoom}
+use Rattle.model.specs.Conditions.{Fit, Playable, Ended, there, waiting, noRoom}
 use Rattle.model.specs.Claims.{Waiting, doneWith, PlayLeaves}
 use Rattle.model.specs.Worked.{code}
 use Rattle.laws.proofs.Refusals.{not-none, all-pass, refuse-none, refuseAt-none, good-below, below-good}

@@ -1,6 +1,7 @@
--- The test of one read that the program makes at a commit record, and what the first read that fails it tells of the outcome.
-use mathlib.Core.Path.{_≡_, ap, sym, _∙_}
-use mathlib.Core.Bool.{Bool, true, false}
+-- What the program does at a commit record: the replica that it plays to it, and the test of each read, of which the first that
+-- fails tells the outcome.
+use mathlib.Core.Path.{_≡_, refl, ap, sym, _∙_}
+use mathlib.Core.Bool.{Bool, true, false, cond}
 use mathlib.Core.List.{List}
 use Prim.Native.Nat.{ℕ, _*_, _/_, _≤_, _<_}
 use lib.Dec.{eqb}
@@ -9,11 +10,18 @@ use Rattle.lists.specs.Sets.{all}
 use Rattle.lists.specs.Rows.{values}
 use Rattle.lists.specs.First.{Seeking}
 use Rattle.lists.specs.Every.{failing, every-not, every-all}
-use Rattle.model.specs.Entries.{Read}
+use Rattle.model.specs.Objects.{depots}
+use Rattle.model.specs.Entries.{Read, Log}
 use Rattle.model.specs.Slot.{readAt}
 use Rattle.model.specs.Table.{Holds, versionIn}
 use Rattle.model.specs.Play.{commitsOver}
-use Rattle.model.specs.Append.{claimGiven}
+use Rattle.model.specs.Answers.{Answer, done, refused}
+use Rattle.model.specs.Reading.{Info}
+use Rattle.model.specs.Append.{Replica, claimGiven}
+use Rattle.model.specs.Replica.{playCall}
+use Rattle.codec.specs.Marks.{kindOf}
+use Rattle.codec.specs.declared.marks.Mark.{Mark}
+use Rattle.codec.specs.declared.marks.Mark.the-variants.{Update, Commit, Decision, Checkpoint, Bad}
 use Rattle.slot.specs.Fields.{readIn}
 use Rattle.slot.specs.declared.fields.Read as code
 
@@ -26,6 +34,30 @@ pub read-current : (cells : Holds) (s : List ℕ) (i : ℕ) (r : code.Read) {v :
 unfolding readIn
 read-current cells s i r e f =
     ap (λ (v : ℕ). eqb v (r .version .0)) f ∙ ap (λ (x : code.Read). eqb (versionIn (cells (x .object .0) (x .key))) (x .version .0)) e
+
+-- ---- where the replica stands
+
+-- the entry is a commit record
+abbrev pub isCommit : Answer Info → Bool
+isCommit (done i) = eqb (i .kind) (kindOf Commit)
+isCommit (refused r) = false
+
+pub not-commit : (m : Mark) → (m ≡ Commit → ⊥) → eqb (kindOf m) (kindOf Commit) ≡ false
+not-commit Update h = refl
+not-commit Commit h = absurd (h refl)
+not-commit Decision h = refl
+not-commit Checkpoint h = refl
+not-commit Bad h = refl
+
+-- a replica and its table played to p, or as they were
+abbrev pub stands : Log → ℕ → Replica → List ℕ → Bool → Replica × List ℕ
+stands log p r t b = cond b (playCall depots log r t p .replica, playCall depots log r t p .table) (r, t)
+
+-- at the entry at p, of which the entry call tells x: played to a commit record
+abbrev pub metAt : Log → ℕ → Answer Info → Replica → List ℕ → Replica × List ℕ
+metAt log p x r t = stands log p r t (isCommit x)
+
+-- ---- whether it commits
 
 module _ (cells : Holds) (items : List ℕ) where
   abbrev readHere : ℕ → Read

@@ -4,12 +4,12 @@ use Prim.Native.Nat.{ℕ, _*_}
 use mathlib.Core.Path.{_≡_, refl}
 use mathlib.Core.Bool.{Bool, true, _&&_}
 use mathlib.Core.List.{List, [], _∷_, _++_, map}
-use mathlib.Core.Option.{Option, none, some}
+use mathlib.Core.Option.{some}
 use lib.Dec.{eqb}
 use lib.ListN.{replicate}
 use Rattle.lists.specs.Picks.{picks}
 use Rattle.model.specs.Reading.{Next, Listed, streamNext, streamList, offsetsOf}
-use Rattle.model.specs.Append.{Replica, Request, update, commits, decides, saves, append}
+use Rattle.model.specs.Append.{Request, update, commits, decides, saves, append}
 use Rattle.model.specs.Histories.{Lent, inLog, empty, grown}
 use Rattle.model.specs.Worked.{code, tells, sameOffset, put, read}
 use Rattle.model.specs.Samples.{small}

@@ -10,7 +10,7 @@ use native.Mathlib.Omega.{arith}
 use lib.Dec.{eqb, ltb}
 use lib.ListN.{length, getD, take, drop, set, length-append, length-set, length-drop}
 use lib.Seq.{drop-at, take-at, split-at, set-split, length-take-le, drop-drop}
-use Rattle.lists.specs.Tests.{and-l, and-r, ands, both}
+use Rattle.lists.specs.Tests.{and-l, and-r, ands}
 use Rattle.lists.specs.Sets.{all}
 use Rattle.lists.specs.Bytes.{bytesOf, length-bytesOf}
 use Rattle.lists.specs.Rows.{values, joined, length-values, getD-values, joined-append}

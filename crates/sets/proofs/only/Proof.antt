@@ -7,22 +7,7 @@ use Rattle.sets.specs.Hosted.{hosted-only}
 use borrow.Author.Needs.{needs}
 use Rattle.sets.proofs.only.Statement.{statement}
 use Rattle.sets.proofs.only.Tie as tie
-use Rattle.sets.proofs.only.Reads as reads
-use Rattle.sets.proofs.only.Lts as lts
 
--- src/lib.rt:15:13
-sub-result : tie.Need-sub-result
-sub-result c = search needs
-
--- src/lib.rt:15:13
-cast-result : tie.Need-cast-result
-cast-result c = search needs
-
--- src/lib.rt:15:5
-shl-result : tie.Need-shl-result
-shl-result c = search needs
-
--- src/lib.rt:11:1
 returns : tie.Need-returns
 returns c =
     let o = c .before .args .id .0 in
@@ -30,4 +15,4 @@ returns c =
     hosted-only (o - 1) (omega arith) ∙ ap (λ (k : ℕ). k ∷ []) e
 
 pub only-spec : {M : Type 1} → statement M
-only-spec = tie.close (tie.spec sub-result cast-result shl-result returns)
+only-spec = tie.close (tie.spec (λ c. search needs) (λ c. search needs) (λ c. search needs) returns)

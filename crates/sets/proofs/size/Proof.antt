@@ -3,10 +3,7 @@ use native.Mathlib.Omega.{arith}
 use Rattle.sets.specs.Hosted.{hosted-size}
 use Rattle.sets.proofs.size.Statement.{statement}
 use Rattle.sets.proofs.size.Tie as tie
-use Rattle.sets.proofs.size.Reads as reads
-use Rattle.sets.proofs.size.Lts as lts
 
--- src/lib.rt:25:1
 returns : tie.Need-returns
 returns c = hosted-size (c .args .set) (omega arith)
 

@@ -3,10 +3,7 @@ use native.Mathlib.Omega.{arith}
 use Rattle.sets.specs.Hosted.{hosted-or}
 use Rattle.sets.proofs.union.Statement.{statement}
 use Rattle.sets.proofs.union.Tie as tie
-use Rattle.sets.proofs.union.Reads as reads
-use Rattle.sets.proofs.union.Lts as lts
 
--- src/lib.rt:18:1
 returns : tie.Need-returns
 returns c = hosted-or (c .args .a) (c .args .b) (omega arith) (omega arith)
 

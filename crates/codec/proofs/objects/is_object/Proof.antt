@@ -1,17 +1,13 @@
 -- Outside the table by its bounds, inside by the law at each place.
 use native.Mathlib.Omega.{arith}
-use mathlib.Core.Path.{sym, ap, _∙_}
+use mathlib.Core.Path.{sym}
 use Rattle.codec.specs.Table.{object-out, object-upto}
 use Rattle.codec.proofs.objects.is_object.Statement.{statement}
 use Rattle.codec.proofs.objects.is_object.Tie as tie
-use Rattle.codec.proofs.objects.is_object.Reads as reads
-use Rattle.codec.proofs.objects.is_object.Lts as lts
 
--- src/objects.rt:29:9
 returns : tie.Need-returns
 returns c = sym (object-out (c .before .before .args .id .0) (λ l m. omega arith))
 
--- src/objects.rt:25:1
 returns-2 : tie.Need-returns-2
 returns-2 c = object-upto (c .before .before .before .args .id .0) (omega arith)
 

@@ -5,32 +5,10 @@ use Rattle.stocklog.specs.Numbers.{replied}
 use borrow.Author.Needs.{needs}
 use Rattle.stocklog.proofs.appending.stocklog_append_update.Statement.{statement}
 use Rattle.stocklog.proofs.appending.stocklog_append_update.Tie as tie
-use Rattle.stocklog.proofs.appending.stocklog_append_update.Reads as reads
-use Rattle.stocklog.proofs.appending.stocklog_append_update.Lts as lts
-use Rattle.append.proofs.update.update.Reads as update-reads
-use Rattle.stocklog.proofs.appending.of_appended.Reads as of-appended-reads
-use Rattle.stocklog.proofs.numbers.put.Reads as put-reads
 
--- src/appending.rt:32:9
-update-requires : tie.Need-update-requires
-update-requires c κs = search needs
-
--- src/appending.rt:33:30
-of-appended-requires : tie.Need-of-appended-requires
-of-appended-requires c κs = search needs
-
--- src/appending.rt:33:5
-put-requires : tie.Need-put-requires
-put-requires c κs = search needs
-
--- src/appending.rt:22:1
-same-length : tie.Need-same-length
-same-length c = search needs
-
--- src/appending.rt:22:1
 returns : tie.Need-returns
 returns c = replied _ (c .put .ensures ∙ c .before .of-appended .ensures) ∙ ap appendReply (c .before .before .before .before .before .update .ensures)
 
 pub stocklog-append-update-spec : {M : Type 1} → statement M
 stocklog-append-update-spec =
-    tie.close (tie.spec update-requires of-appended-requires put-requires same-length returns)
+    tie.close (tie.spec (λ c κs. search needs) (λ c κs. search needs) (λ c κs. search needs) (λ c. search needs) returns)

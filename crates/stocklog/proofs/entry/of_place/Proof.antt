@@ -5,67 +5,32 @@ use Rattle.stocklog.specs.Entry.{place-is, place-above, place-fifth}
 use borrow.Author.Needs.{needs}
 use Rattle.stocklog.proofs.entry.of_place.Statement.{statement}
 use Rattle.stocklog.proofs.entry.of_place.Tie as tie
-use Rattle.stocklog.proofs.entry.of_place.Reads as reads
-use Rattle.stocklog.proofs.entry.of_place.Lts as lts
-use Rattle.stocklog.proofs.entry.of_header.Reads as of-header-reads
-use Rattle.stocklog.proofs.numbers.done.Reads as done-reads
-use Rattle.stocklog.proofs.numbers.refusal.Reads as refusal-reads
 
--- src/entry.rt:84:9
-refusal-requires : tie.Need-refusal-requires
-refusal-requires c κs = search needs
-
--- src/entry.rt:84:9
 returns : tie.Need-returns
 returns c =
     let a = c .before .before .before .args in
     c .refusal .ensures ∙ ap headerReply (place-above (a .i) (a .place) (c .before .if1 .taken))
 
--- src/entry.rt:87:14
-of-header-requires : tie.Need-of-header-requires
-of-header-requires c κs = search needs
-
--- src/entry.rt:88:14
-of-header-requires-2 : tie.Need-of-header-requires-2
-of-header-requires-2 c κs = search needs
-
--- src/entry.rt:89:14
-of-header-requires-3 : tie.Need-of-header-requires-3
-of-header-requires-3 c κs = search needs
-
--- src/entry.rt:90:14
-of-header-requires-4 : tie.Need-of-header-requires-4
-of-header-requires-4 c κs = search needs
-
--- src/entry.rt:91:14
-done-requires : tie.Need-done-requires
-done-requires c κs = search needs
-
--- src/entry.rt:80:1
 returns-2 : tie.Need-returns-2
 returns-2 c =
     let k = c .before .before in
     c .of-header .ensures ∙ ap headerReply (place-is (k .before .before .args .i) 0 (c .before .match .keys1) (k .if1 .left))
 
--- src/entry.rt:80:1
 returns-3 : tie.Need-returns-3
 returns-3 c =
     let k = c .before .before in
     c .of-header2 .ensures ∙ ap headerReply (place-is (k .before .before .args .i) 1 (c .before .match .keys2) (k .if1 .left))
 
--- src/entry.rt:80:1
 returns-4 : tie.Need-returns-4
 returns-4 c =
     let k = c .before .before in
     c .of-header3 .ensures ∙ ap headerReply (place-is (k .before .before .args .i) 2 (c .before .match .keys3) (k .if1 .left))
 
--- src/entry.rt:80:1
 returns-5 : tie.Need-returns-5
 returns-5 c =
     let k = c .before .before in
     c .of-header4 .ensures ∙ ap headerReply (place-is (k .before .before .args .i) 3 (c .before .match .keys4) (k .if1 .left))
 
--- src/entry.rt:80:1
 returns-6 : tie.Need-returns-6
 returns-6 c =
     let k = c .before .before in
@@ -77,13 +42,13 @@ pub of-place-spec : {M : Type 1} → statement M
 of-place-spec =
     tie.close
     (tie.spec
-    refusal-requires
+    (λ c κs. search needs)
     returns
-    of-header-requires
-    of-header-requires-2
-    of-header-requires-3
-    of-header-requires-4
-    done-requires
+    (λ c κs. search needs)
+    (λ c κs. search needs)
+    (λ c κs. search needs)
+    (λ c κs. search needs)
+    (λ c κs. search needs)
     returns-2
     returns-3
     returns-4

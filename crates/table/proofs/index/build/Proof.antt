@@ -9,9 +9,6 @@ use Rattle.laws.proofs.Tables.{length-cells}
 use Rattle.table.specs.Places.{Index}
 use Rattle.table.proofs.index.build.Statement.{statement}
 use Rattle.table.proofs.index.build.Tie as tie
-use Rattle.table.proofs.index.build.Reads as reads
-use Rattle.table.proofs.index.build.Lts as lts
-use Rattle.table.proofs.index.with_row.Reads as with-row-reads
 
 abbrev Inv-loop : tie.InvT-loop
 Inv-loop index₀ table count i₀ index i = (i ≤ count) × Index (drop i (cellsOf table count)) i index
@@ -19,7 +16,6 @@ Inv-loop index₀ table count i₀ index i = (i ≤ count) × Index (drop i (cel
 abbrev μ-loop : tie.MeasureT-loop
 μ-loop index₀ table count i₀ index i = i
 
--- src/index.rt:31:5
 loop-holds : tie.Need-loop-holds Inv-loop μ-loop
 loop-holds c =
     let c₀ = c .before .before in
@@ -29,11 +25,6 @@ loop-holds c =
     let none : drop (a .count) cs ≡ [] = drop-of-length-le cs short in
     (omega arith, subst (λ (cs : List Cell). Index cs (a .count) (a .index .now)) (sym none) (c₀ .pre .1))
 
--- src/index.rt:32:9
-sub-i : tie.Need-sub-i Inv-loop μ-loop
-sub-i c = omega arith
-
--- src/index.rt:33:9
 with-row-requires : tie.Need-with-row-requires Inv-loop μ-loop
 with-row-requires c κs =
     let l = c .before .before .loop in
@@ -42,19 +33,12 @@ with-row-requires c κs =
     let e : l .i ≡ l .i - 1 + 1 = omega arith in
     (c₀ .pre .0, omega arith, subst (λ (m : ℕ). Index (drop m (cellsOf (a .table .now) (a .count))) m (l .index)) e (l .inv .1))
 
--- src/index.rt:31:5
-loop-less : tie.Need-loop-less Inv-loop μ-loop
-loop-less c = omega arith
-
--- src/index.rt:31:5
 loop-again : tie.Need-loop-again Inv-loop μ-loop
 loop-again c = (omega arith, c .before .before .with-row .ensures)
 
--- src/index.rt:26:1
 same-length : tie.Need-same-length Inv-loop μ-loop
 same-length c = c .before .loop .inv .1 .size ∙ sym (c .before .before .before .before .pre .1 .size)
 
--- src/index.rt:26:1
 returns : tie.Need-returns Inv-loop μ-loop
 returns c =
     let l = c .before .loop in
@@ -69,9 +53,9 @@ build-spec =
     Inv-loop
     μ-loop
     loop-holds
-    sub-i
+    (λ c. omega arith)
     with-row-requires
-    loop-less
+    (λ c. omega arith)
     loop-again
     same-length
     returns)

@@ -7,31 +7,21 @@ use Rattle.table.specs.Places.{place-below}
 use borrow.Author.Needs.{needs}
 use Rattle.table.proofs.index.row_of.Statement.{statement}
 use Rattle.table.proofs.index.row_of.Tie as tie
-use Rattle.table.proofs.index.row_of.Reads as reads
-use Rattle.table.proofs.index.row_of.Lts as lts
-use Rattle.table.proofs.places.place_of.Reads as place-of-reads
-
--- src/index.rt:42:9
-place-of-requires : tie.Need-place-of-requires
-place-of-requires c κs = search needs
 
 below : (c : tie.After-place-of) → c .place-of .result < 21503
 below c =
     let c₀ = c .before .before in
     omega (arith, place-below (c₀ .args .id .0) (c₀ .args .key) (c₀ .pre .1), c .place-of .ensures)
 
--- src/index.rt:43:5
 mul-result : tie.Need-mul-result
 mul-result c = omega (arith, below c)
 
--- src/index.rt:43:5
 shared-slice-read-result : tie.Need-shared-slice-read-result
 shared-slice-read-result c = omega (arith, below (c .before), c .before .before .before .pre .0)
 
--- src/index.rt:38:1
 returns : tie.Need-returns
 returns c = ap (λ (p : ℕ). getD (c .before .before .before .args .index .now) p 0) (c .before .place-of .ensures)
 
 pub row-of-spec : {M : Type 1} → statement M
 row-of-spec =
-    tie.close (tie.spec place-of-requires mul-result shared-slice-read-result returns)
+    tie.close (tie.spec (λ c κs. search needs) mul-result shared-slice-read-result returns)

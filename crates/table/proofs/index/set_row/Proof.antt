@@ -7,35 +7,21 @@ use Rattle.table.specs.Places.{place-below}
 use borrow.Author.Needs.{needs}
 use Rattle.table.proofs.index.set_row.Statement.{statement}
 use Rattle.table.proofs.index.set_row.Tie as tie
-use Rattle.table.proofs.index.set_row.Reads as reads
-use Rattle.table.proofs.index.set_row.Lts as lts
-use Rattle.table.proofs.places.place_of.Reads as place-of-reads
-
--- src/index.rt:51:9
-place-of-requires : tie.Need-place-of-requires
-place-of-requires c κs = search needs
 
 below : (c : tie.After-place-of) → c .place-of .result < 21503
 below c =
     let c₀ = c .before .before in
     omega (arith, place-below (c₀ .args .id .0) (c₀ .args .key) (c₀ .pre .1), c .place-of .ensures)
 
--- src/index.rt:52:5
 mul-index : tie.Need-mul-index
 mul-index c = omega (arith, below c)
 
--- src/index.rt:52:5
 slice-write-index : tie.Need-slice-write-index
 slice-write-index c = omega (arith, below c, c .before .before .pre .0)
 
--- src/index.rt:47:1
-same-length : tie.Need-same-length
-same-length c = search needs
-
--- src/index.rt:47:1
 returns : tie.Need-returns
 returns c = let a = c .before .before .args in ap (λ (p : ℕ). set (a .index .now) p (a .row)) (c .place-of .ensures)
 
 pub set-row-spec : {M : Type 1} → statement M
 set-row-spec =
-    tie.close (tie.spec place-of-requires mul-index slice-write-index same-length returns)
+    tie.close (tie.spec (λ c κs. search needs) mul-index slice-write-index (λ c. search needs) returns)
