@@ -1,4 +1,4 @@
-//! "Answers other than done": document 01's numbers.
+//! Answers: done, or refused with a number and the offset told (§13).
 
 pub const FRAME: u32 = 1;
 pub const BAD_ENTRY: u32 = 2;

@@ -1,4 +1,4 @@
-//! "The audit hosts everything and plays from 0 over a lent scratch table, left as played."
+//! The audit (§11).
 
 use crate::answer::{refuse, refuse_at, Answer, Refusal, FALSE_RECORD, NO_ROOM, WAITING};
 use crate::log::pass;
@@ -20,7 +20,7 @@ pub fn audit(log: &[u8], tail: usize, scratch: &mut [u8]) -> (Answer<()>, Record
     (audited.answer, audited.record)
 }
 
-/// "Audit: 1, 2, 13, 11."
+/// Order: 1, 2, 13, 11 (13.5).
 pub fn audit_whole(log: &[u8], tail: usize, scratch: &mut [u8]) -> Audited {
     let mut audited = Audited {
         answer: Answer::Done(()),
@@ -53,7 +53,7 @@ fn play_all(
         match player.step(at) {
             Step::Commits => audited.committed[at] = true,
             Step::Passed | Step::Aborts => {}
-            // "stopped at that entry, the audit tells its offset"
+            // 13 tells the entry's offset (11.2)
             Step::LacksRoom => return refuse_at(NO_ROOM, at),
             // It hosts every object that a good log reads, so it never waits.
             Step::Waits => return refuse(WAITING),
@@ -64,7 +64,7 @@ fn play_all(
     lowest_false.map_or(Ok(()), |at| refuse_at(FALSE_RECORD, at))
 }
 
-/// 11: "a decision or checkpoint is not as played". The player is just below the entry.
+/// Whether the entry is a false record (11.3, 11.4). The player is just below it.
 fn as_played(log: &[u8], at: usize, player: &Player, committed: &[bool]) -> bool {
     let slot = slot_at(log, at);
     match slot.kind() {
@@ -77,7 +77,7 @@ fn as_played(log: &[u8], at: usize, player: &Player, committed: &[bool]) -> bool
     }
 }
 
-/// "It gives every cell ever written of its object as play leaves them below this entry."
+/// The cells that a true checkpoint has (11.4).
 fn checkpoint_as_played(slot: Slot, player: &Player) -> bool {
     let object = slot.header(0).object;
     slot.item_count() == player.index.written(object)

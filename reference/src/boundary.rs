@@ -1,7 +1,6 @@
 //! The sixteen calls as the C interface has them: numbers and lent bytes in, a number and `out` back.
 //!
-//! "Values in `out[0]` to `out[2]`, the offset told by 2, by 11 and by the audit's 13 in `out[3]`, and 0 wherever
-//! nothing is said." The entry call alone uses `out[4]` to `out[7]`.
+//! What `out` has on every return is said in 14.3 of docs/SPECIFICATION.md. The entry call alone uses `out[4]` to `out[7]`.
 
 use crate::answer::Answer;
 use crate::append;
@@ -93,7 +92,7 @@ pub fn items(log: &[u8], tail: usize, offset: u64) -> Said {
     })
 }
 
-/// "1, the entry's offset, the reader's next offset; or 0, 0, the tail. Refused: 0, 0, `from`".
+/// `out` of the stream reader's next (14.4).
 pub fn stream_next(log: &[u8], tail: usize, object: u32, from: u64) -> Said {
     let (answer, next) = log::next(log, tail, object, from);
     let values = match answer {
@@ -130,7 +129,7 @@ pub fn play(log: &[u8], tail: usize, record: Record, table: &mut [u8], stop: u64
     said_with(answer, numbers(left))
 }
 
-/// "0 never written, 1 holds a value, 2 removed; the value; the version".
+/// `out` of cell reading (14.4).
 pub fn read_cell(record: Record, table: &[u8], object: u32, key: u32) -> Said {
     said(
         replica::read_cell(&record, table, object, key),
@@ -142,7 +141,7 @@ pub fn read_cell(record: Record, table: &[u8], object: u32, key: u32) -> Said {
     )
 }
 
-/// "the record as played; with 11 and 13 too".
+/// `out` of the audit: the record as left (14.4).
 pub fn audit(log: &[u8], tail: usize, scratch: &mut [u8]) -> Said {
     let (answer, record) = audit::audit(log, tail, scratch);
     said_with(answer, numbers(record))

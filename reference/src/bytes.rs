@@ -1,4 +1,4 @@
-//! "Integers are unsigned and stored most significant byte first."
+//! Integers in bytes (0.1).
 
 pub fn get16(bytes: &[u8], at: usize) -> u16 {
     u16::from_be_bytes([bytes[at], bytes[at + 1]])

@@ -1,4 +1,4 @@
-//! "Objects": the table, and sets of objects as one byte (bit 0 for object 1, up to bit 7 for object 8).
+//! The directory (1.1), and sets of objects as one byte (7.2).
 
 #[derive(Clone, Copy, Debug, PartialEq, Eq)]
 pub enum Structure {
@@ -23,7 +23,7 @@ const fn map(id: u32, highest_key: u32, marked: bool) -> Object {
     }
 }
 
-/// "A register is one cell, key 0."
+/// A register's highest key is 0 (1.2).
 const fn register(id: u32, marked: bool) -> Object {
     Object {
         id,
@@ -53,7 +53,7 @@ pub fn is_object(id: u32) -> bool {
     object(id).is_some()
 }
 
-/// "Every object named is in the list above, and every key is at most its highest."
+/// Whether it is a cell of the directory (1.3).
 pub fn is_cell(id: u32, key: u32) -> bool {
     object(id).is_some_and(|object| key <= object.highest_key)
 }

@@ -1,4 +1,4 @@
-//! "Playing": openings, play and cell reading.
+//! Openings, play and cell reading (§8 to §10).
 
 use crate::answer::{
     refuse, refuse_if, Answer, Refusal, BAD_REPLICA, BAD_REQUEST, NO_ROOM, WAITING,
@@ -17,12 +17,12 @@ pub struct Record {
     pub count: u64,
 }
 
-/// The one place that turns an offset into a version: "offset plus 1".
+/// The one place that turns an offset into a version (1.8).
 pub fn version_at(at: usize) -> u64 {
     at as u64 + 1
 }
 
-/// 10: "hosted set 0, count over capacity".
+/// 10 where no tail is given (7.9).
 pub fn replica_good(record: &Record, table: &[u8]) -> Result<(), Refusal> {
     refuse_if(
         record.hosted == 0 || record.count > capacity(table) as u64,
@@ -30,7 +30,7 @@ pub fn replica_good(record: &Record, table: &[u8]) -> Result<(), Refusal> {
     )
 }
 
-/// 10, with "position over the tail".
+/// 10, with the position too (7.9).
 pub fn replica_good_at(record: &Record, table: &[u8], tail: usize) -> Result<(), Refusal> {
     replica_good(record, table)?;
     refuse_if(record.position > tail as u64, BAD_REPLICA)
@@ -46,7 +46,7 @@ pub fn open_fresh(hosted: u8) -> Answer<Record> {
         .into()
 }
 
-/// "A replica opened at a checkpoint hosts that object alone, from the next offset, its cells in key order."
+/// Opening at a checkpoint (8.2).
 pub fn open_at(log: &[u8], tail: usize, offset: u64, table: &mut [u8]) -> Answer<Record> {
     opened(log, tail, offset, table).into()
 }
@@ -86,7 +86,7 @@ pub fn play(
     (answer, moved)
 }
 
-/// "A player's record can also be moved on in place, with the answers of the ordinary call."
+/// Play in place (9.13).
 pub fn play_in_place(
     log: &[u8],
     tail: usize,
@@ -162,17 +162,17 @@ impl<'a> Player<'a> {
         }
     }
 
-    /// Plays the entry at an offset; "those of no hosted object are passed over".
+    /// Plays the entry at an offset; one without a hosted header object is passed over (9.3).
     pub fn step(&mut self, at: usize) -> Step {
         let slot = slot_at(self.log, at);
         if slot.objects() & self.hosted == 0 {
             return Step::Passed;
         }
         match slot.kind() {
-            // "A plain update applies its hosted writes with version offset plus 1."
+            // a plain update (9.4)
             Some(Kind::Update) if slot.number() == 0 => self.apply(&[at], at, Step::Passed),
             Some(Kind::Commit) => self.finish(slot, at),
-            // "A numbered update does nothing yet." "Decision and checkpoint entries change no cell."
+            // no cell is changed (9.5)
             _ => Step::Passed,
         }
     }
@@ -181,8 +181,7 @@ impl<'a> Player<'a> {
         match self.outcome(commit, at) {
             None => Step::Waits,
             Some(false) => Step::Aborts,
-            // "the hosted writes of all its number's updates, in log order, are applied with the commit
-            // record's offset plus 1"
+            // all updates of the number, with the commit record's version (9.6)
             Some(true) => {
                 let updates = self.earlier.updates(commit.number());
                 self.apply(&updates, at, Step::Commits)
@@ -190,8 +189,7 @@ impl<'a> Player<'a> {
         }
     }
 
-    /// "If the replica does not host all objects read, it takes the outcome from a decision record anywhere below
-    /// the tail, else waits."
+    /// The outcome, or none where it waits (9.7, 9.8).
     fn outcome(&self, commit: Slot, at: usize) -> Option<bool> {
         if commit.reads().all(|read| has(self.hosted, read.object)) {
             return Some(self.reads_current(commit));
@@ -201,7 +199,7 @@ impl<'a> Player<'a> {
             .map(|decided| decided.outcome == COMMIT)
     }
 
-    /// "A commit record commits when every read's version is the cell's present version."
+    /// Whether no read is stale (9.7).
     fn reads_current(&self, commit: Slot) -> bool {
         commit
             .reads()
@@ -231,7 +229,7 @@ impl<'a> Player<'a> {
         done
     }
 
-    /// Gives the new cells of these updates their rows, "in order of first writing", if there are enough.
+    /// Gives the new cells of these updates rows after the counted ones, in order, if there are enough (7.10, 9.9).
     fn find_room(&mut self, updates: &[usize]) -> bool {
         let free = capacity(self.table) - self.count;
         let mut fresh = Vec::new();

@@ -10,10 +10,9 @@ use crate::table::{rows, CELL};
 pub const LONGEST_INPUT: usize = 65_536;
 pub const TABLE_CELLS: usize = 2_730;
 
-/// "audits it, plays all, and prints". The audit's scratch is left as played to the tail, which is the play of
-/// everything.
+/// What `playlog` prints (15.1). The audit's scratch is left as played to the tail, which is the play of
 pub fn playlog(input: &[u8]) -> String {
-    // "Longer input is refused 1"
+    // too long (15.2)
     if input.len() > LONGEST_INPUT {
         return refusal(FRAME, None);
     }
@@ -26,13 +25,13 @@ pub fn playlog(input: &[u8]) -> String {
     }
 }
 
-/// "refused N at K", K the offset or "-".
+/// The line of a refusal (15.3).
 fn refusal(number: u32, offset: Option<u64>) -> String {
     let place = offset.map_or("-".to_string(), |offset| offset.to_string());
     format!("refused {number} at {place}\n")
 }
 
-/// "commit records in log order"
+/// The lines of commit records (15.4).
 fn outcomes(log: &[u8], tail: usize, audited: &Audited) -> String {
     let mut text = String::from("offset number outcome\n");
     for at in 0..tail {
@@ -49,7 +48,7 @@ fn outcomes(log: &[u8], tail: usize, audited: &Audited) -> String {
     text
 }
 
-/// "then cells ascending, "-" for a removed value"
+/// The lines of cells (15.4).
 fn cells(table: &[u8], audited: &Audited) -> String {
     let mut sorted: Vec<_> = rows(table, audited.record.count as usize).collect();
     sorted.sort_by_key(|row| (row.object, row.key));

@@ -1,4 +1,4 @@
-//! "The one-by-one run is fed each append's arguments in order, and whether it was refused." It sees no log.
+//! The one-by-one run (§12). It sees no log.
 
 use std::collections::{BTreeMap, HashMap};
 
@@ -7,7 +7,7 @@ use crate::objects::has;
 use crate::slot::{reads_in, writes_in, Write, PUT};
 use crate::table::Cell;
 
-/// "It starts with count 0, all cells never written and no writes set aside."
+/// The run's state (12.2).
 #[derive(Clone, Debug, Default)]
 pub struct Run {
     pub count: u64,
@@ -23,7 +23,7 @@ impl Run {
         Run::default()
     }
 
-    /// "A refused append changes nothing; any other first adds 1 to the count."
+    /// One append (12.3).
     pub fn feed(&mut self, request: &Request, refused: bool) {
         if refused {
             return;
@@ -31,20 +31,19 @@ impl Run {
         self.count += 1;
         match request {
             Request::Update { number: 0, items } => self.make(writes_in(items)),
-            // "a numbered one sets them aside after its number's earlier ones"
+            // set aside (12.4)
             Request::Update { number, items } => self
                 .aside
                 .entry(*number)
                 .or_default()
                 .extend(writes_in(items)),
             Request::Commit { number, reads } => self.commit(*number, reads),
-            // "Nothing else changes a cell."
+            // no cell is changed (12.6)
             Request::Decision { .. } | Request::Checkpoint { .. } => {}
         }
     }
 
-    /// "A commit whose reads all have their cells' versions makes its number's writes in order, with the count as
-    /// version; any other aborts."
+    /// A commit (12.5).
     fn commit(&mut self, number: u32, reads: &[u8]) {
         let commits =
             reads_in(reads).all(|read| self.cell(read.object, read.key).version() == read.version);
@@ -55,7 +54,7 @@ impl Run {
         }
     }
 
-    /// Makes writes in order, "with the count as version".
+    /// Makes writes in order, with the count as version (12.4).
     fn make(&mut self, writes: impl Iterator<Item = Write>) {
         for write in writes {
             let value = (write.operation == PUT).then_some(write.value);

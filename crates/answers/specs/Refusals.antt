@@ -1,4 +1,4 @@
--- Document 01's number and offset for each case of the code's refusals.
+-- The number and the offset told for each case of the code's refusals (13.3).
 use mathlib.Core.Option.{Option, none, some}
 use Prim.Native.Nat.{ℕ}
 use Rattle.model.specs.Answers.{Refusal}

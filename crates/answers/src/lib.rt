@@ -1,4 +1,4 @@
-// Document 01's answers other than done, as one enum that every call answers with.
+// The answers other than done (13.3), as one enum that every call answers with.
 ghost use mathlib.Core.Path.{_≡_};
 ghost use Rattle.answers.specs.Refusals.{refusalIn, toldIn};
 use codec::names::Offset;

@@ -65,7 +65,7 @@ CallsInstalments = (log : Lent) (k : Kept) → Bytes (k .table)
 
 -- ---- demand 2
 
--- an append is accepted exactly when no line of document 01's table stops it
+-- an append is accepted exactly when no refusal's condition stops it (13.3)
 abbrev pub CallsAccept : Type 0
 CallsAccept = (c : AppendCall) → (isRefused (tailIn (seen c .answer)) ≡ false) ↔ Unstopped depots (lentAt c) (seen c .request)
 
@@ -91,14 +91,14 @@ pub record Returns (c : AppendCall) (answer : Info) (handed : List ℕ) : Type 0
   pub ascend : ascending ltb (headerObjectsIn (infoOf answer)) ≡ true
   pub items : ItemsGiven (seen c .request) handed
 
--- "What append wrote reads back as what was given", after any further appends
+-- what was appended reads back (17.3)
 abbrev pub CallsReadBack : Type 0
 CallsReadBack = (c : AppendCall) (t : ℕ) → seen c .answer ≡ appended.Tail t
     → (later : List AppendCall) → Grows (seen c .left) t later
     → (e : EntryCall (leftBy (seen c .left) t later) (seen c .tail)) (i : ItemsCall (leftBy (seen c .left) t later) (seen c .tail))
     → (answer : Info) × (e .call .answer ≡ found.Entry answer) × Returns c answer (part i)
 
--- "over the same earlier log, two accepted entries that read alike are the same bytes"
+-- entries that read alike are the same bytes (17.4)
 abbrev pub CallsSameBytes : Type 0
 CallsSameBytes = (c d : AppendCall) (t u : ℕ) → lentAt c ≡ lentAt d → seen c .answer ≡ appended.Tail t → seen d .answer ≡ appended.Tail u
     → (e : EntryCall (record { bytes = seen c .left; tail = t }) (seen c .tail)) (i : ItemsCall (record { bytes = seen c .left; tail = t }) (seen c .tail))
@@ -107,7 +107,7 @@ CallsSameBytes = (c d : AppendCall) (t u : ℕ) → lentAt c ≡ lentAt d → se
     → infoOf m .kind ≡ infoOf n .kind → infoOf m .number ≡ infoOf n .number → headerObjectsIn (infoOf m) ≡ headerObjectsIn (infoOf n)
     → part i ≡ part j → seen c .left ≡ seen d .left
 
--- "a transaction aborts exactly when some cell it read has another version": a play across one commit record, on any bytes
+-- a play across one commit record, on any bytes, aborts exactly on a stale read (17.6)
 abbrev pub CallsAbort : Type 0
 CallsAbort = (log : Lent) (k : Kept) (p : PlayOn log k) (n : ℕ) (c : Claim) → stopOf p ≡ k .replica .position + 1
     → Alone depots log (carry k) n c → AbortsAlone depots log (carry k) n c (playLeft p)

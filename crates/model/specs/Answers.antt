@@ -1,4 +1,4 @@
--- Document 01, "Answers other than done": refusals, and the order in which they are tested.
+-- Refusals, and the order in which they are tested (specification §13).
 use Prim.Native.Nat.{ℕ, _/_, _%_}
 use mathlib.Core.Bool.{Bool, cond, not, _||_}
 use mathlib.Core.List.{List, [], _∷_}
@@ -19,7 +19,7 @@ pub data Answer (A : Type 0) : Type 0 where
   done : A → Answer A
   refused : Refusal → Answer A
 
--- a test of the "Order" paragraph: the refusal n where b holds
+-- one test of a call's order (13.5): the refusal n where b holds
 abbrev pub refuse : ℕ → Bool → Option Refusal
 refuse n b = cond b (some (record { number = n; offset = none })) none
 
@@ -41,7 +41,7 @@ answer (some r) a = refused r
 abbrev pub slots : Log → ℕ
 slots log = log .size / slotSize
 
--- 1 frame: "length not whole slots, over 131,072 slots, or tail above the slots"
+-- 1: bad frame (13.3)
 unfoldable pub badFrame : Log → Bool
 badFrame log = not (eqb (log .size % slotSize) 0) || ltb mostSlots (slots log) || ltb (slots log) (log .tail)
 

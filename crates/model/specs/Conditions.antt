@@ -155,7 +155,7 @@ Allowed sh log (commits n items) = CommitAllowed sh log n items
 Allowed sh log (decides o v) = DecisionAllowed log o v
 Allowed sh log (saves r table o) = CheckpointAllowed sh log r table o
 
--- no line of document 01's table stops the append
+-- no refusal's condition stops the append (13.3)
 pub record Unstopped (sh : Shape) (l : Lent) (q : Request) : Type 0 where
   pub framed : Framed l
   pub good : AllGood sh (inLog l)

@@ -1,4 +1,4 @@
--- What the worked logs leave open, written out by hand from document 01: all bytes of an entry of each kind and of table cells,
+-- What the worked logs leave open, written out by hand from the specification: all bytes of an entry of each kind and of table cells,
 -- headers whose entries are far apart, and the table of objects. Each is compared with what the definitions give.
 use Prim.Native.Nat.{ℕ, _+_}
 use mathlib.Core.Path.{_≡_, refl}

@@ -58,7 +58,7 @@ openRefusal sh log o table = firstOf (frameAndEntries sh log
 abbrev pub unopened : Refusal → List ℕ → Left
 unopened r table = record { answer = refused r; replica = noReplica; table = table }
 
--- "A replica opened at a checkpoint hosts that object alone, from the next offset, its cells in key order."
+-- what an opening at a checkpoint leaves (8.2)
 abbrev pub openGiven : Shape → ℕ → List ℕ → Option Refusal → Option Checkpoint → Left
 openGiven sh o table (some r) c = unopened r table
 openGiven sh o table none none = unopened (record { number = 3; offset = none }) table
@@ -67,7 +67,7 @@ openGiven sh o table none (some c) = leftWith (done tt) (setOf sh (c .object)) (
 unfoldable pub openAt : Shape → Log → ℕ → List ℕ → Left
 openAt sh log o table = openGiven sh o table (openRefusal sh log o table) (checkpointIn (log .entry o))
 
--- 3: "a stop below the replica's position", or a stop above the tail
+-- 3: a stop above the tail or below the position (9.1)
 abbrev pub badStop : ℕ → Replica → ℕ → Bool
 badStop tail r stop = ltb tail stop || ltb stop (r .position)
 
@@ -76,7 +76,7 @@ abbrev pub playRefusal : Shape → Log → Replica → List ℕ → ℕ → Opti
 playRefusal sh log r table stop = firstOf (frameAndEntries sh log
     ++ (refuse 10 (badReplica (log .tail) r table) ∷ refuse 3 (badStop (log .tail) r stop) ∷ []))
 
--- "done means that the replica is there"; 12 and 13: the replica at that entry
+-- done at the stop; 12 and 13 at the entry where it ended (9.11)
 abbrev pub leftBy : ℕ → ℕ → List ℕ → Played → Left
 leftBy set stop table (going cs) = leftWith (done tt) set stop table cs
 leftBy set stop table (waits q cs) = leftWith (plainly 12) set q table cs
@@ -98,7 +98,7 @@ readCell sh r table o k =
     answer (firstOf (refuse 10 (badRecord r table) ∷ refuse 3 (not (mem o (hosted sh (r .hosting)) && isCell sh o k)) ∷ []))
     (lookup (cellsOf table (r .count)) o k)
 
--- "The audit hosts everything and plays from 0 over a lent scratch table"
+-- the audit's play: every object, from offset 0, no cells (11.1)
 abbrev pub auditPlay : Shape → Log → ℕ → ℕ → Played
 auditPlay sh log room p = play log (ids sh) room 0 [] p
 
@@ -119,7 +119,7 @@ sameSaved [] (d ∷ ds) = false
 sameSaved (c ∷ cs) [] = false
 sameSaved (c ∷ cs) (d ∷ ds) = eqb c.key d.key && eqb c.held.version d.held.version && sameContent c.held.content d.held.content && sameSaved cs ds
 
--- "a decision or checkpoint is not as played": a decision is judged at its commit record, a checkpoint at itself
+-- a true record: a decision is judged at its commit record, a checkpoint at itself (11.3, 11.4)
 abbrev pub asPlayed : Shape → Log → ℕ → ℕ → Entry → Bool
 asPlayed sh log room p (plain ws) = true
 asPlayed sh log room p (numbered n ws) = true

@@ -1,4 +1,4 @@
--- What the program playlog prints of a log: "commit records in log order, then cells ascending".
+-- What the program playlog prints of a log (15.4).
 use Prim.Native.Nat.{ℕ, zero, suc}
 use mathlib.Core.Bool.{Bool}
 use mathlib.Core.List.{List, [], _∷_, _++_, map}
@@ -8,7 +8,7 @@ use Rattle.model.specs.Table.{Cell, capacity, cellOf, savedOf}
 use Rattle.model.specs.Play.{cellsIn}
 use Rattle.model.specs.Replica.{auditPlay, commitsThere}
 
--- a line "offset number outcome"
+-- a commit record's line: offset, number, outcome (15.4)
 pub record Outcome : Type 0 where
   pub offset : ℕ
   pub number : ℕ

@@ -1,5 +1,4 @@
--- Document 01, "The one-by-one run": fed each append's arguments in order, and whether it was refused.
--- It has a test of reads and a stamping of versions of its own, and shares neither with the player.
+-- The one-by-one run (specification §12).
 use Prim.Native.Nat.{ℕ, _+_}
 use mathlib.Core.Bool.{Bool, true, cond, _&&_}
 use mathlib.Core.List.{List, [], _∷_, _++_}
@@ -9,7 +8,7 @@ use Rattle.model.specs.Entries.{Write, Read, Held, contentOf}
 use Rattle.model.specs.Table.{Holds}
 use Rattle.model.specs.Append.{Request, update, commits, decides, saves, writesGiven, claimGiven}
 
--- "an append's arguments .., and whether it was refused"
+-- what the run is fed: an append's arguments, and whether it was refused (12.1)
 pub record Fed : Type 0 where
   pub request : Request
   pub wasRefused : Bool
@@ -20,7 +19,7 @@ pub record Run : Type 0 where
   pub cells : Holds
   pub aside : ℕ → List Write
 
--- "It starts with count 0, all cells never written and no writes set aside."
+-- its state at the start (12.2)
 abbrev pub start : Run
 start = record { count = 0; cells = λ o k. none; aside = λ n. [] }
 
@@ -29,7 +28,7 @@ abbrev pub hasVersion : ℕ → Option Held → Bool
 hasVersion v none = eqb v 0
 hasVersion v (some h) = eqb v h.version
 
--- "reads all have their cells' versions"
+-- no read differs from its cell's version (12.5)
 abbrev pub current : Holds → List Read → Bool
 current cells [] = true
 current cells (r ∷ rs) = hasVersion (r .version) (cells (r .object) (r .key)) && current cells rs
@@ -38,12 +37,12 @@ current cells (r ∷ rs) = hasVersion (r .version) (cells (r .object) (r .key)) 
 abbrev pub written : ℕ → Write → Holds → Holds
 written count w cells o k = cond (eqb w.object o && eqb w.key k) (some (record { version = count; content = contentOf w })) (cells o k)
 
--- "makes its writes in order, with the count as version"
+-- writes made in order (12.4)
 abbrev pub madeAll : ℕ → List Write → Holds → Holds
 madeAll count [] cells = cells
 madeAll count (w ∷ ws) cells = madeAll count ws (written count w cells)
 
--- "sets them aside after its number's earlier ones"
+-- writes set aside after the earlier ones of their number (12.4)
 abbrev pub setAside : ℕ → List Write → (ℕ → List Write) → ℕ → List Write
 setAside n ws before m = cond (eqb n m) (before m ++ ws) (before m)
 
@@ -60,7 +59,7 @@ accept count s (commits n items) = record {
 accept count s (decides o v) = record { count = count; cells = s .cells; aside = s .aside }
 accept count s (saves r table o) = record { count = count; cells = s .cells; aside = s .aside }
 
--- what the run had at count p: "A refused append changes nothing; any other first adds 1 to the count."
+-- what the run had at count p (12.3, 12.7)
 unfoldable pub runAt : ℕ → Run → List Fed → Run
 runAt p s [] = s
 runAt p s (f ∷ fs) = cond (f .wasRefused) (runAt p s fs) (cond (eqb (s .count) p) s (runAt p (accept (s .count + 1) s (f .request)) fs))

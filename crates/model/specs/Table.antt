@@ -1,4 +1,4 @@
--- Document 01, "Playing": the table's cells, and what a cell holds.
+-- The table's cells, and what a cell holds (specification §7).
 use Prim.Native.Nat.{ℕ, _+_, _*_, _/_}
 use mathlib.Core.Bool.{Bool, cond, _&&_}
 use mathlib.Core.List.{List, [], _∷_, _++_}
@@ -11,7 +11,7 @@ use Rattle.lists.specs.Sets.{mem}
 use Rattle.model.specs.Entries.{Write, Held, Saved, contentOf}
 use Rattle.model.specs.Slot.{valueField}
 
--- "A table cell is 24 bytes: object 4, key 4, value 4 (0 if removed), present 4 (1 or 0), version 8": as stored, of any value
+-- a row as stored, of any values (7.4)
 pub record Cell : Type 0 where
   pub object : ℕ
   pub key : ℕ
@@ -32,11 +32,11 @@ cellBytes c = bytesOf 4 (c .object) ++ bytesOf 4 (c .key) ++ bytesOf 4 (c .value
 unfoldable pub cellsOf : List ℕ → ℕ → List Cell
 cellsOf table count = values (λ i. cellAt table (cellSize * i)) 0 count
 
--- a table with these cells: "Bytes past the counted cells are not touched."
+-- a table with these cells first, the rest as it was (7.5)
 unfoldable pub tableWith : List ℕ → List Cell → List ℕ
 tableWith table cells = joined cellBytes cells ++ drop (cellSize * length cells) table
 
--- "Capacity is the length divided by 24, rounded down."
+-- how many rows it has (7.5)
 abbrev pub capacity : List ℕ → ℕ
 capacity table = length table / cellSize
 
@@ -47,11 +47,11 @@ Holds = ℕ → ℕ → Option Held
 abbrev pub isOf : ℕ → ℕ → Cell → Bool
 isOf o k c = eqb c.object o && eqb c.key k
 
--- "a present field other than 1 means removed, and the value is then taken as 0"
+-- what a row holds (7.6)
 abbrev pub heldBy : Cell → Held
 heldBy c = record { version = c .version; content = cond (eqb c.present 1) (some (c .value)) none }
 
--- "If a caller's table has a cell twice, the first counts"
+-- what a cell holds: its first row (7.7)
 unfoldable pub lookup : List Cell → Holds
 lookup [] o k = none
 lookup (c ∷ cs) o k = cond (isOf o k c) (some (heldBy c)) (lookup cs o k)
@@ -63,17 +63,17 @@ presentField (some v) = 1
 abbrev pub cellOf : ℕ → ℕ → Held → Cell
 cellOf o k h = record { object = o; key = k; value = valueField (h .content); present = presentField (h .content); version = h .version }
 
--- a cell written: in its place, or as the last, "in order of first writing"
+-- a cell written: in its first row, or in a new last one (7.10)
 unfoldable pub store : List Cell → ℕ → ℕ → Held → List Cell
 store [] o k h = cellOf o k h ∷ []
 store (c ∷ cs) o k h = cond (isOf o k c) (cellOf o k h ∷ cs) (c ∷ store cs o k h)
 
--- the hosted writes made in order, with one version; "A later write to the same cell wins"
+-- the hosted writes made in order, with one version (9.4)
 unfoldable pub apply : List ℕ → ℕ → List Write → List Cell → List Cell
 apply set v [] cs = cs
 apply set v (w ∷ ws) cs = apply set v ws (cond (mem w.object set) (store cs w.object w.key (record { version = v; content = contentOf w })) cs)
 
--- "A removed cell has a version; only a never written one has 0."
+-- a cell's version: 0 where it was never written (1.5)
 abbrev pub versionIn : Option Held → ℕ
 versionIn none = 0
 versionIn (some h) = h .version

@@ -1,4 +1,4 @@
--- Document 01, "Worked logs": the lines marked (P) as one table, and one fact that covers all its rows.
+-- The worked logs marked (P) as one table, and one fact that covers all its rows (specification §16).
 use Prim.Native.Nat.{ℕ, _-_, _*_}
 use mathlib.Core.Path.{_≡_, refl}
 use mathlib.Core.Bool.{Bool, true, false, cond, _&&_, Bool·beq}
@@ -38,7 +38,7 @@ read o k v = readBytes (record { object = o; key = k; version = v })
 abbrev pub logBy : ℕ → List Request → Lent
 logBy n qs = grown depots (empty (replicate (256 * n) 7)) qs
 
--- "Bench log, object 2, key 7", with the read version of entry 3
+-- the bench log (16.1), with the read version of entry 3
 abbrev pub bench : ℕ → List Request
 bench v = update 0 (put 2 7 43) ∷ update 9 (put 2 7 42) ∷ update 10 (put 2 7 40) ∷ commits 9 (read 2 7 v) ∷ commits 10 (read 2 7 1) ∷ []
 
@@ -134,25 +134,25 @@ only5 = update 9 (put 5 1 6) ∷ commits 9 (read 2 7 0) ∷ []
 
 abbrev pub rows : List Row
 rows =
-    -- "Empty log: audit passes, no cells."
+    -- the empty log
     printed [] 48 [] []
-    -- "Bench entry 0: distances 0 0 0 0." "Entry 4: 1 2 3 4." "A sixth entry of object 2, at 5: 1 2 3 4."
+    -- distances: entries 0 and 4 of the bench log, and a sixth entry
     ∷ header (bench 1) 0 (0 ∷ 0 ∷ 0 ∷ 2 ∷ 0 ∷ 0 ∷ 0 ∷ 0 ∷ 0 ∷ 0 ∷ 0 ∷ 0 ∷ [])
     ∷ header (bench 1) 4 (0 ∷ 0 ∷ 0 ∷ 2 ∷ 0 ∷ 1 ∷ 0 ∷ 2 ∷ 0 ∷ 3 ∷ 0 ∷ 4 ∷ [])
     ∷ header (bench 1 ++ (update 0 (put 2 7 1) ∷ [])) 5 (0 ∷ 0 ∷ 0 ∷ 2 ∷ 0 ∷ 1 ∷ 0 ∷ 2 ∷ 0 ∷ 3 ∷ 0 ∷ 4 ∷ [])
-    -- "Entry 65,535, only earlier entry 0: format 0, FF FF then zeros (hex)." "Entry 65,536: format 1, offset 0."
+    -- the farthest distance, and one more
     ∷ far 65535 (0 ∷ 0 ∷ 0 ∷ 2 ∷ 0xFF ∷ 0xFF ∷ 0 ∷ 0 ∷ 0 ∷ 0 ∷ 0 ∷ 0 ∷ [])
     ∷ far 65536 (0x80 ∷ 0 ∷ 0 ∷ 2 ∷ 0 ∷ 0 ∷ 0 ∷ 0 ∷ 0 ∷ 0 ∷ 0 ∷ 0 ∷ [])
-    -- "Bench log as printed." "With read version 0 at entry 3: 9 aborts, 10 commits, value 40, version 5."
+    -- the bench log as printed (16.2), and with read version 0 at entry 3
     ∷ printed (bench 1) 48 (line 3 9 true ∷ line 4 10 false ∷ []) (cell 2 7 (some 42) 4 ∷ [])
     ∷ printed (bench 0) 48 (line 3 9 false ∷ line 4 10 true ∷ []) (cell 2 7 (some 40) 5 ∷ [])
-    -- "Put at 0, remove at 1: removed, version 2; a read with version 0 aborts."
+    -- a removed cell's version; a read with version 0 is stale
     ∷ printed (update 0 (put 2 7 43) ∷ update 0 (remove 2 7) ∷ update 9 (put 2 7 1) ∷ commits 9 (read 2 7 0) ∷ []) 48
     (line 3 9 false ∷ []) (cell 2 7 none 2 ∷ [])
-    -- "Hosting object 5, a commit reading (2,7) and writing (5,1): 12." "With its decision above: played."
+    -- a read that is not hosted, without and with its decision record
     ∷ player only5 16 48 (stops 12 1 [])
     ∷ player (only5 ++ (decides 1 1 ∷ [])) 16 48 (ends 3 (cell 5 1 (some 6) 2 ∷ []))
-    -- "Table of 23 bytes: 13 at offset 0 of the bench log; 24 bytes: done.": of a play, and of the audit, which tells the offset
+    -- a table without a row, and with one
     ∷ player (bench 1) 2 23 (stops 13 0 [])
     ∷ audited (bench 1) 23 (record { answers = 13; told = some 0; position = 0; cells = [] })
     ∷ player (bench 1) 2 24 (ends 5 (cell 2 7 (some 42) 4 ∷ []))

@@ -1,5 +1,4 @@
-// Reads a log from standard input, audits it, plays all of it, and prints what document 01 says: the outcome of each commit record
-// in log order, then the cells ascending; or "refused N at K".
+// Reads a log from standard input, audits and plays it, and prints the outcomes and the cells, or the refusal (specification §15).
 mod cells;
 mod outcomes;
 

@@ -25,7 +25,7 @@ pub fn line_end() {
     io::write_all(1, b"\n");
 }
 
-// "refused N at K": the offset told, or "-".
+// The line of a refusal: its number, and the offset told or "-" (15.3).
 pub fn refusal(r: Refusal) {
     io::write_all(1, b"refused ");
     number(answers::number_of(r) as u64);

@@ -1,5 +1,4 @@
--- The numbers of refusals, computed: each append meets a refusal, some two at once, and the first of the "Order" line is
--- answered; the stream reader and the stream list, done and refused, with what they leave.
+-- The numbers of refusals, computed: each append meets a refusal, some two at once, and the first in its order (13.5) is
 use Prim.Native.Nat.{ℕ, _*_}
 use mathlib.Core.Path.{_≡_, refl}
 use mathlib.Core.Bool.{Bool, true, _&&_}

@@ -36,7 +36,7 @@ orZero none = 0
 orZero (some o) = o
 
 -- Done: 0, and in `out` the call's three values and 0.
--- Refused: document 01's number, and in `out` what the call says beside a refusal, and the offset told or 0.
+-- Refused: its number (13.3), and in `out` what the call says beside a refusal, and the offset told or 0.
 abbrev pub coded : {A : Type 0} → (A → Values) → Values → Answer A → Reply
 coded said beside (done a) = reply 0 (said a) 0
 coded said beside (refused r) = reply (r .number) beside (orZero (r .offset))

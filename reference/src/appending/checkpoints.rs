@@ -58,7 +58,7 @@ fn cells(number: u32) -> Vec<Row> {
         .collect()
 }
 
-/// 10: "hosted set 0, count over capacity, or position over the tail", before any fault of the object or its cells.
+/// 10 for each fault of the record (7.9), before any fault of the object or its cells.
 fn records() -> Case {
     let mut asking = Asking::on("checkpoint: records", with_junk(&base(), 4), 3);
     let one = table_of(&[Row::of(2, 7, Some(1), 3)]);
@@ -86,7 +86,7 @@ fn records() -> Case {
     asking.case()
 }
 
-/// "object not hosted"; an object that is not in the list never is.
+/// 3 for an object that is not hosted (6.7); one that is not in the directory never is.
 fn objects() -> Case {
     let mut asking = Asking::on("checkpoint: objects", with_junk(&base(), 10), 3);
     for object in [0, 9, 10, 256, 258, 0x0200_0000, 0x8000_0002, u32::MAX] {
@@ -108,7 +108,7 @@ fn objects() -> Case {
     asking.case()
 }
 
-/// "a cell of that object, up to the count, whose key .. breaks the slot rules"
+/// 3 for a key above the highest (6.7).
 fn keys() -> Case {
     let mut asking = Asking::on("checkpoint: keys", with_junk(&base(), 2), 3);
     for (object, key) in [
@@ -143,7 +143,7 @@ fn keys() -> Case {
     asking.case()
 }
 
-/// "or version": from 1 to the entry's offset, which is the tail.
+/// 3 for a version that is not 1 to the tail (6.7).
 fn versions() -> Case {
     let mut asking = Asking::on("checkpoint: versions", with_junk(&base(), 2), 3);
     for version in [
@@ -178,7 +178,7 @@ fn versions() -> Case {
     asking.case()
 }
 
-/// "If a caller's table has a cell twice, the first counts".
+/// Rows that repeat a cell (7.7).
 fn repeated() -> Case {
     let mut asking = Asking::on("checkpoint: repeated cells", with_junk(&base(), 4), 3);
     let row = Row::of(2, 7, Some(41), 2);
@@ -198,7 +198,7 @@ fn repeated() -> Case {
     asking.case()
 }
 
-/// "a present field other than 1 means removed, and the value is then taken as 0"
+/// Present fields other than 1 (7.6).
 fn present_fields() -> Case {
     let mut asking = Asking::on("checkpoint: present fields", with_junk(&base(), 2), 3);
     let fields = [0, 1, 2, 256, 257, 0x0100_0000, 0x8000_0001, u32::MAX];
@@ -226,7 +226,7 @@ fn present_fields() -> Case {
     asking.case()
 }
 
-/// 13: "more than 12 cells for a checkpoint".
+/// 13 for more than 12 cells (6.7).
 fn counts() -> Case {
     let mut asking = Asking::on("checkpoint: counts of cells", with_junk(&base(), 5), 3);
     asking.refused(13, by_all(5, 3, &cells(13)));
@@ -253,7 +253,7 @@ fn counts() -> Case {
     asking.case()
 }
 
-/// "strictly ascending keys", whatever the order of the rows.
+/// By ascending key, whatever the order of the rows (6.8).
 fn key_order() -> Case {
     let mut asking = Asking::on("checkpoint: rows in any order", with_junk(&base(), 4), 3);
     let mut rows: Vec<Row> = [0, 1, 255, 256, 511, 4096, 9998, 9999]
@@ -273,7 +273,7 @@ fn key_order() -> Case {
     asking.case()
 }
 
-/// 14: "checkpoint from a replica not at the tail", after 3 and before 13.
+/// 14 below the tail, after 3 and before 13 (6.7).
 fn positions() -> Case {
     let mut asking = Asking::on("checkpoint: positions", with_junk(&base(), 1), 3);
     for position in 0..3 {

@@ -200,7 +200,7 @@ fn commit_cells() -> Case {
     asking.case()
 }
 
-/// "Read version equal to the tail accepted (the last entry wrote the cell), tail plus 1 refused 3."
+/// A read version equal to the tail, where the last entry wrote the cell, and one more (16.4).
 fn commit_versions() -> Case {
     let base = [
         update(8, &[put(5, 1, 1)]),

@@ -45,7 +45,7 @@ fn sixth() -> Case {
     asking.case()
 }
 
-/// "12 reads accepted, 13 refused 3", and writes.
+/// 12 and 13 reads (16.4), and writes.
 fn widest() -> Case {
     let writes: Vec<_> = (0..13).map(|key| put(3, 13 - key, key)).collect();
     let reads: Vec<_> = (0..13).map(|key| read(5, key, 0)).collect();

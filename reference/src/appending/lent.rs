@@ -41,7 +41,7 @@ fn bad() -> [Request; 4] {
     ]
 }
 
-/// "length not whole slots, over 131,072 slots, or tail above the slots"
+/// Each fault of the frame (13.3).
 fn frames() -> Vec<Case> {
     let bench = log_of(&bench());
     let mut cases = Vec::new();
@@ -75,7 +75,7 @@ fn frames() -> Vec<Case> {
     cases
 }
 
-/// "2 bad entry, lowest offset"
+/// The lowest bad entry (5.2).
 fn bad_entries() -> Vec<Case> {
     let mut cases = Vec::new();
     let mut told = |name: &str, log: Vec<u8>, tail: u32, at: u64| {
@@ -104,7 +104,7 @@ fn bad_entries() -> Vec<Case> {
     cases
 }
 
-/// "9 full": tail equals the slots.
+/// 9 where no slot is free (13.3).
 fn full() -> Case {
     let mut base = bench();
     base.push(update(11, &[put(2, 7, 1)]));

@@ -1,5 +1,4 @@
-//! Each set of refusals that one append can meet at once, from none to all: the first in its "Order" line is
-//! answered. So each stands alone, and beside each other.
+//! Each set of refusals that one append can meet at once, from none to all: the first in its order (13.5) is
 
 use crate::answer::Answer;
 use crate::append::Request;
@@ -10,7 +9,7 @@ use crate::table::Row;
 
 use super::{bad_entry, refused, with_junk, Asking, Case};
 
-/// An append's "Order" line, and how to meet any of it.
+/// An append's order (13.5), and how to meet any of it.
 struct Order {
     name: &'static str,
     /// The numbers as document 01 lists them; the first two and the last are met by the log, the others by the

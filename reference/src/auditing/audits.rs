@@ -28,7 +28,7 @@ pub fn cases() -> Vec<Case> {
     cases
 }
 
-/// "Empty log: audit passes, no cells."
+/// The empty log (16.4).
 fn empty() -> Case {
     let mut asking = Asking::on("an audit of an empty log", junk(512), junk(23));
     asking.audits(0, 0);
@@ -60,7 +60,7 @@ fn bench_version_0() -> Case {
     asking.case()
 }
 
-/// "Table of 23 bytes: 13 at offset 0 of the bench log; 24 bytes: done."
+/// A table without a row, and with one, on the bench log (16.4).
 fn bench_rooms(length: usize) -> Case {
     let name = format!("bench log audited, a table of {length} bytes");
     let mut asking = Asking::on(&name, log_of(&bench()), junk(length));

@@ -75,7 +75,7 @@ fn no_reads() -> Case {
     asking.case()
 }
 
-/// "11 false record, lowest offset"
+/// 11 tells the lowest false record (11.5).
 fn lowest_of_several() -> Case {
     let mut requests = tried();
     requests.extend([
@@ -95,7 +95,7 @@ fn lowest_of_several() -> Case {
     asking.case()
 }
 
-/// "Audit: 1, 2, 13, 11."
+/// Order: 1, 2, 13, 11 (13.5).
 fn no_room_first(length: usize) -> Case {
     let mut requests = tried();
     requests.extend([

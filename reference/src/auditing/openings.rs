@@ -39,7 +39,7 @@ pub fn stocked() -> Vec<Request> {
     ]
 }
 
-/// "A replica opened at a checkpoint that forgets updates set aside before it" is a mistake that the log has seen.
+/// Updates set aside below the checkpoint are found (8.5), a mistake that earlier players made (16.5).
 fn set_aside_before() -> Case {
     let mut asking = Asking::on("updates set aside before it", log_of(&stocked()), junk(120));
     asking.restores(7, 3, 2, 2);

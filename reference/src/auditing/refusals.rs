@@ -21,7 +21,7 @@ pub fn cases() -> Vec<Case> {
     ]
 }
 
-/// "an offset not below the tail"
+/// 3 for an offset at or above the tail (8.3).
 fn offsets() -> Case {
     let log = with_junk(&stocked(), 1);
     let mut asking = Asking::with("offsets not below the tail", log, junk(60), record(2, 1, 0));
@@ -36,7 +36,7 @@ fn offsets() -> Case {
     asking.case()
 }
 
-/// "a named checkpoint is none"
+/// 3 for an entry that is no checkpoint (8.3).
 fn other_kinds() -> Case {
     let log = log_of(&[
         update(0, &[put(3, 1, 1)]),
@@ -60,7 +60,7 @@ fn other_kinds() -> Case {
     asking.case()
 }
 
-/// "length not whole slots, over 131,072 slots, or tail above the slots"
+/// Each fault of the frame (13.3).
 fn frames(length: usize) -> Case {
     let log = log_of(&stocked())[..length].to_vec();
     let name = format!("openings and audits of {length} bytes");
@@ -87,7 +87,7 @@ fn frames(length: usize) -> Case {
     asking.case()
 }
 
-/// "2 bad entry, lowest offset": also above the checkpoint; not above the tail.
+/// The lowest bad entry (5.2): also above the checkpoint; not above the tail.
 fn bad_entry() -> Case {
     let mut log = log_of(&stocked());
     slot_mut(&mut log, 6)[0] = 0;
@@ -124,7 +124,7 @@ fn bad_above() -> Case {
     asking.case()
 }
 
-/// "Opening at a checkpoint: 1, 2, 3, 13."
+/// Order: 1, 2, 3, 13 (13.5).
 fn orders() -> Case {
     let mut log = with_junk(&stocked(), 1);
     slot_mut(&mut log, 6)[255] = 1;

@@ -80,7 +80,7 @@ fn no_slots() -> Case {
     asking.case()
 }
 
-/// "hosted set 0, count over capacity, or position over the tail"
+/// Each fault of the record (7.9).
 fn bad_replicas() -> Vec<Case> {
     [
         (record(0, 0, 0), 10),
@@ -121,7 +121,7 @@ fn bad_replicas() -> Vec<Case> {
     .collect()
 }
 
-/// "length not whole slots, over 131,072 slots, or tail above the slots"
+/// Each fault of the frame (13.3).
 fn frames(length: usize) -> Case {
     let log = log_of(&bench())[..length].to_vec();
     let name = format!("frames of {length} bytes");
@@ -145,7 +145,7 @@ fn frames(length: usize) -> Case {
     asking.case()
 }
 
-/// "2 bad entry, lowest offset": also above the stop, and where nothing is to be played; not above the tail.
+/// The lowest bad entry (5.2): also above the stop, and where nothing is to be played; not above the tail.
 fn bad_entry() -> Case {
     let mut log = log_of(&bench());
     slot_mut(&mut log, 4)[0] = 0;
@@ -190,7 +190,7 @@ fn bad_above() -> Case {
     asking.case()
 }
 
-/// "Play: 1, 2, 10, 3": with a bad entry in the log, and without.
+/// Order: 1, 2, 10, 3 (13.5), with a bad entry in the log, and without.
 fn orders(bad: bool) -> Case {
     let mut log = with_junk(&bench(), 1);
     if bad {

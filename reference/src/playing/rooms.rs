@@ -62,7 +62,7 @@ fn table_of_bytes(length: usize) -> Case {
     asking.case()
 }
 
-/// "Table of 23 bytes: 13 at offset 0 of the bench log; 24 bytes: done."
+/// A table without a row, and with one, on the bench log (16.4).
 fn bench_table(length: usize) -> Case {
     let name = format!("bench log, a table of {length} bytes");
     let mut asking = Asking::on(&name, log_of(&bench()), junk(length));
@@ -148,7 +148,7 @@ fn aborts() -> Case {
     asking.case()
 }
 
-/// "at an entry 12 before 13"
+/// 12 before 13 at one entry (9.10).
 fn waits_first() -> Case {
     let log = log_of(&[
         update(1, &[put(5, 1, 9)]),

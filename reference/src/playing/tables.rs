@@ -31,7 +31,7 @@ fn raw(object: u32, key: u32, value: u32, present: u32, version: u64) -> Row {
     }
 }
 
-/// "If a caller's table has a cell twice, the first counts": play writes the first row and leaves the later one.
+/// Rows that repeat a cell (7.7): play writes the first row and leaves the later one.
 fn repeated() -> Case {
     let log = log_of(&[
         update(1, &[put(2, 2, 1)]),
@@ -64,7 +64,7 @@ fn repeated() -> Case {
     asking.case()
 }
 
-/// "a present field other than 1 means removed, and the value is then taken as 0"; it stays until it is written.
+/// Present fields other than 1 (7.6); the row stays until its cell is written.
 fn present_fields() -> Case {
     let log = log_of(&[
         update(0, &[put(2, 1, 1), remove(2, 3)]),
@@ -168,7 +168,7 @@ fn any_versions() -> Case {
     asking.case()
 }
 
-/// "Bytes past the counted cells are not touched", nor read.
+/// Bytes past the counted rows are neither read nor changed (7.5).
 fn past_the_count() -> Case {
     let log = log_of(&[
         update(1, &[put(2, 8, 1)]),

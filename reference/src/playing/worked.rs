@@ -69,7 +69,7 @@ fn bench_instalments() -> Case {
     asking.case()
 }
 
-/// "Put at 0, remove at 1: removed, version 2; a read with version 0 aborts."
+/// A removed cell's version; a read with version 0 is stale (16.4).
 fn put_and_remove() -> Case {
     let log = log_of(&[
         update(0, &[put(2, 7, 43)]),
@@ -110,7 +110,7 @@ fn order() -> Vec<crate::append::Request> {
     ]
 }
 
-/// "Hosting object 5, a commit reading (2,7) and writing (5,1): 12."
+/// A read that is not hosted, without a decision record (16.4).
 fn waiting() -> Case {
     let log = with_junk(&order(), 1);
     let mut asking = Asking::on("a commit that waits", log, junk(48));
@@ -135,7 +135,7 @@ fn waiting() -> Case {
     asking.case()
 }
 
-/// "With its decision above: played"; at the older tail it waits.
+/// The same with its decision record (16.4); at the older tail it waits.
 fn waiting_with(outcome: u32) -> Case {
     let mut requests = order();
     requests.push(decision(2, outcome));
