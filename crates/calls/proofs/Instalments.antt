@@ -13,9 +13,9 @@ use Rattle.lists.specs.Tests.{ands, ors, neither}
 use Rattle.lists.specs.Sets.{all, meets}
 use Rattle.model.specs.Objects.{depots, hosted}
 use Rattle.model.specs.Entries.{Write, Entry, plain, numbered, commit, decision, checkpoint, blank, effect, Log, writesOf, headerObjects}
-use Rattle.model.specs.Slot.{logIn}
+use Rattle.model.specs.Slot.{logIn, mostSlots}
 use Rattle.model.specs.Rules.{okWrite, okWrites, okEntry, lowestBad}
-use Rattle.model.specs.Table.{Cell, cellsOf, tableWith, capacity, apply}
+use Rattle.model.specs.Table.{Cell, cellsOf, tableWith, capacity, apply, cellSize}
 use Rattle.model.specs.Play.{Played, going, waits, lacks, cellsIn, versionAt, outcome, make, finish, act, step, andThen, play}
 use Rattle.model.specs.Answers.{Refusal, done, refuse, frameAndEntries, badFrame}
 use Rattle.model.specs.Append.{Replica, badReplica}
@@ -54,7 +54,7 @@ module _ (log : Log) (set : List ℕ) (room : ℕ) where
 
   -- ---- the cells of a play fit their fields
 
-  module _ (kept : Kept depots log (log .tail)) (few : log .tail ≤ 131072) where
+  module _ (kept : Kept depots log (log .tail)) (few : log .tail ≤ mostSlots) where
     step-fit : (p : ℕ) (cs : List Cell) → p < log .tail → all fitsCell cs ≡ true → all fitsCell (cellsIn (step log set room p cs)) ≡ true
     unfolding step okEntry okWrites
     step-fit p cs l f = go (meets set (headerObjects log p (log .entry p)))
@@ -172,7 +172,7 @@ module _ (log : Log) where
       -- the second play goes on from there
       second : model.playFrom depots log next (tableWith t cells) b ≡ play log set (capacity t) at cells (b - at)
       second =
-          ap (λ (n : ℕ). play log set (n / 24) at (cellsOf (tableWith t cells) (length cells)) (b - at)) size
+          ap (λ (n : ℕ). play log set (n / cellSize) at (cellsOf (tableWith t cells) (length cells)) (b - at)) size
           ∙ ap (λ (cs : List Cell). play log set (capacity t) at cs (b - at)) (cells-back t cells fit)
 
       -- and so does the whole one

@@ -14,7 +14,7 @@ use Rattle.lists.specs.Tests.{and-l, and-r, clash}
 use Rattle.lists.specs.Sets.{all, mem, meets}
 use Rattle.model.specs.Objects.{Shape, okShape}
 use Rattle.model.specs.Entries.{Write, Read, Held, Claim, contentOf, commit, Log, writesOf, headerObjects, commitObjects}
-use Rattle.model.specs.Slot.{logIn}
+use Rattle.model.specs.Slot.{logIn, mostSlots}
 use Rattle.model.specs.Rules.{okWrite}
 use Rattle.model.specs.Table.{Cell, Holds, cellsOf, tableWith, capacity, lookup, store, apply}
 use Rattle.model.specs.Play.{Played, going, lacks, commitsOver, alone, make, finish, step, play}
@@ -150,7 +150,7 @@ module _ (sh : Shape) (shape : okShape sh ≡ true) (l : Lent) (r : Carried) (n 
   low : p < l .tail
   low = omega (arith, given .playable .fit .within)
 
-  small-tail : l .tail ≤ 131072
+  small-tail : l .tail ≤ mostSlots
   unfolding logIn
   small-tail = tail-small log (words-frame l (given .playable .framed))
 
@@ -177,7 +177,7 @@ module _ (sh : Shape) (shape : okShape sh ≡ true) (l : Lent) (r : Carried) (n 
       made : (ok : all (okWrite sh) ws ≡ true) (o k : ℕ) → lookup (cellsOf (tableWith (r .table) (apply (hosts sh r) (p + 1) ws cs)) (length (apply (hosts sh r) (p + 1) ws cs))) o k
           ≡ cond (mem o (hosts sh r)) (madeAll (p + 1) ws (tableHolds r) o k) (tableHolds r o k)
       made ok o k =
-          let few : l .tail ≤ 131072 = small-tail in
+          let few : l .tail ≤ mostSlots = small-tail in
           ap (λ (ds : List Cell). lookup ds o k)
           (cells-back (r .table) (apply (hosts sh r) (p + 1) ws cs)
           (apply-fits (hosts sh r) (p + 1) sh shape (omega (arith, few, low)) ws cs ok (cells-fit (r .table) (given .bytes) (r .replica .count))))

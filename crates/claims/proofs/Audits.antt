@@ -11,6 +11,7 @@ use borrow.Author.Tests.{ltb-true, ltb-false, not-false}
 use lib.Dec.{eqb, ltb}
 use Rattle.lists.specs.Tests.{and-r, ands, ors, both, beq-true, clash}
 use Rattle.lists.specs.Sets.{all, within}
+use Rattle.model.specs.Slot.{mostSlots}
 use Rattle.model.specs.Objects.{Shape, ids, isCell, okShape, everything}
 use Rattle.model.specs.Entries.{Write, Read, Claim, Entry, plain, numbered, commit, decision, checkpoint, blank, Effect, writes, aside, tries, inert, effect, Log, commitIn, ifSome, readObjects}
 use Rattle.model.specs.Rules.{okWrite, okWrites, okRead, okReads, okEntry, lowestBad}
@@ -118,7 +119,7 @@ going-back log set room p cs d (suc n) h = going-back log set room p cs d n (go 
     go (waits q u) i = i
     go (lacks q u) i = i
 
-pub tail-small : (log : Log) → badFrame log ≡ false → log .tail ≤ 131072
+pub tail-small : (log : Log) → badFrame log ≡ false → log .tail ≤ mostSlots
 unfolding badFrame
 tail-small log e =
     let a : ltb (slots log) (log .tail) ≡ false = search ors in

@@ -14,7 +14,7 @@ use Rattle.lists.specs.Tests.{ors, neither, clash}
 use Rattle.lists.specs.Sets.{mem, meets, any-set}
 use Rattle.lists.specs.Members.{any-in, in-any, mem-map, map-mem}
 use Rattle.model.specs.Entries.{Write, Entry, plain, numbered, commit, decision, checkpoint, blank, effect, Log, asideUnder, writesOf, commitIn, ifSome, closed, decides, decided, isNone, writtenObjects, commitObjects}
-use Rattle.model.specs.Slot.{logIn}
+use Rattle.model.specs.Slot.{logIn, mostSlots, slotSize}
 use Rattle.model.specs.Answers.{slots, badFrame}
 use Rattle.model.specs.Histories.{Lent, inLog}
 use Rattle.model.specs.Conditions.{Framed, SetAside, Committed, Decided, Concerns}
@@ -25,24 +25,24 @@ use Rattle.laws.proofs.Refusals.{not-none}
 pub frame-words : (l : Lent) → badFrame (inLog l) ≡ false → Framed l
 unfolding badFrame logIn
 frame-words l e =
-    let w : not (eqb (length (l .bytes) % 256) 0) ≡ false = search ors in
-    let z : length (l .bytes) % 256 ≡ 0 = eqb-true _ 0 (not-false _ w) in
-    let a : ltb 131072 (length (l .bytes) / 256) ≡ false = search ors in
-    let b : ltb (length (l .bytes) / 256) (l .tail) ≡ false = search ors in
+    let w : not (eqb (length (l .bytes) % slotSize) 0) ≡ false = search ors in
+    let z : length (l .bytes) % slotSize ≡ 0 = eqb-true _ 0 (not-false _ w) in
+    let a : ltb mostSlots (length (l .bytes) / slotSize) ≡ false = search ors in
+    let b : ltb (length (l .bytes) / slotSize) (l .tail) ≡ false = search ors in
     record {
-      slots = length (l .bytes) / 256;
+      slots = length (l .bytes) / slotSize;
       whole = omega arith;
-      few = ltb-false 131072 (length (l .bytes) / 256) a;
-      used = ltb-false (length (l .bytes) / 256) (l .tail) b;
+      few = ltb-false mostSlots (length (l .bytes) / slotSize) a;
+      used = ltb-false (length (l .bytes) / slotSize) (l .tail) b;
     }
 
 pub words-frame : (l : Lent) → Framed l → badFrame (inLog l) ≡ false
 unfolding badFrame logIn
 words-frame l f =
-    let n : length (l .bytes) / 256 ≡ f .slots = omega (arith, f .whole) in
-    let z : length (l .bytes) % 256 ≡ 0 = omega (arith, f .whole) in
-    neither (neither (ap not (eq-eqb (length (l .bytes) % 256) 0 z)) (le-ltb 131072 (length (l .bytes) / 256) (omega (arith, f .few))))
-    (le-ltb (length (l .bytes) / 256) (l .tail) (omega (arith, f .used)))
+    let n : length (l .bytes) / slotSize ≡ f .slots = omega (arith, f .whole) in
+    let z : length (l .bytes) % slotSize ≡ 0 = omega (arith, f .whole) in
+    neither (neither (ap not (eq-eqb (length (l .bytes) % slotSize) 0 z)) (le-ltb mostSlots (length (l .bytes) / slotSize) (omega (arith, f .few))))
+    (le-ltb (length (l .bytes) / slotSize) (l .tail) (omega (arith, f .used)))
 
 -- ---- the writes of a number
 

@@ -13,7 +13,7 @@ use lib.ListN.{length, take}
 use Rattle.lists.specs.Tests.{ands, or-l, or-r, neither, clash}
 use Rattle.model.specs.Objects.{Shape, okShape}
 use Rattle.model.specs.Entries.{decision, Log}
-use Rattle.model.specs.Slot.{logIn}
+use Rattle.model.specs.Slot.{logIn, mostSlots, slotSize}
 use Rattle.model.specs.Rules.{okEntry, lowestBad}
 use Rattle.model.specs.Answers.{Answer, done, refused, slots, badFrame}
 use Rattle.model.specs.Append.{Request, entryOf}
@@ -148,8 +148,8 @@ module _ (sh : Shape) (shape : okShape sh ≡ true) where
 frame-below : (old new : Log) → badFrame new ≡ false → new .size ≡ old .size → old .tail ≤ new .tail → badFrame old ≡ false
 unfolding badFrame
 frame-below old new e s l =
-    let whole : (not (eqb (old .size % 256) 0) || ltb 131072 (slots old)) ≡ false = rw (← s) (or-l _ (ltb (slots new) (new .tail)) e) in
-    let high : ltb (slots new) (new .tail) ≡ false = or-r (not (eqb (new .size % 256) 0) || ltb 131072 (slots new)) (ltb (slots new) (new .tail)) e in
+    let whole : (not (eqb (old .size % slotSize) 0) || ltb mostSlots (slots old)) ≡ false = rw (← s) (or-l _ (ltb (slots new) (new .tail)) e) in
+    let high : ltb (slots new) (new .tail) ≡ false = or-r (not (eqb (new .size % slotSize) 0) || ltb mostSlots (slots new)) (ltb (slots new) (new .tail)) e in
     neither whole (le-ltb (slots old) (old .tail) (omega (arith, ltb-false (slots new) (new .tail) high)))
 
 -- a log as it stood when the whole log had a lower tail

@@ -12,7 +12,7 @@ use Rattle.lists.specs.Tests.{and-r, ands, both, or-false, clash}
 use Rattle.lists.specs.Sets.{all, mem, ascending, first-leads, rest-ascends}
 use Rattle.model.specs.Objects.{Object, Shape, ids, isObject, isCell, okShape, hostedBy, hosted, bitOf, setOf}
 use Rattle.model.specs.Entries.{Saved, checkpoint, effect, Log, isNone}
-use Rattle.model.specs.Slot.{valueField}
+use Rattle.model.specs.Slot.{valueField, mostSlots}
 use Rattle.model.specs.Rules.{fits, okSaved, savedBefore, okEntry}
 use Rattle.model.specs.Table.{Cell, lookup, cellOf, savedOf}
 use Rattle.model.specs.Play.{cellsIn}
@@ -106,7 +106,7 @@ module _ (o : ℕ) where
       let r : ascending savedBefore (d ∷ cs) ≡ true = rest-ascends savedBefore c (d ∷ cs) a in
       both (absent c.key d cs (ltb-true (c .key) (d .key) (first-leads savedBefore c (d ∷ cs) a)) r) (ascending-distinct (d ∷ cs) r)
 
-  module _ (sh : Shape) (shape : okShape sh ≡ true) (p : ℕ) (few : p ≤ 131072) where
+  module _ (sh : Shape) (shape : okShape sh ≡ true) (p : ℕ) (few : p ≤ mostSlots) where
     pub loaded-owned : (cs : List Saved) → all (okSaved sh p o) cs ≡ true → all (owned sh (o ∷ [])) (loaded o cs) ≡ true
     unfolding okSaved owned isCell
     loaded-owned [] h = refl

@@ -17,7 +17,7 @@ use Rattle.lists.specs.Bytes.{beAt}
 use Rattle.lists.specs.Splice.{splice}
 use Rattle.model.specs.Objects.{Shape, okShape}
 use Rattle.model.specs.Entries.{Write, commit, Log, writesOf, writtenObjects, commitObjects, headerObjects, numberOf}
-use Rattle.model.specs.Slot.{slotSize, markOf, itemBytes, itemCount, slotOf, slot, logIn}
+use Rattle.model.specs.Slot.{slotSize, markOf, itemBytes, itemCount, slotOf, slot, logIn, headerSize, headersBegin, itemSize, itemsBegin}
 use Rattle.model.specs.Rules.{lowestBad}
 use Rattle.model.specs.Table.{Cell, cellsOf, savedOf}
 use Rattle.model.specs.Answers.{done, answer}
@@ -51,7 +51,7 @@ kind-marked s (saves r table o) e = rw e
 
 objects-told : (s : List ℕ) → headerObjectsIn (infoIn s) ≡ objectsIn s
 unfolding infoIn objectsIn
-objects-told s = map-values (λ (x : Header). x .object) (λ i. headerAt s (8 + 12 * i)) 0 (beAt 1 s 2)
+objects-told s = map-values (λ (x : Header). x .object) (λ i. headerAt s (headersBegin + headerSize * i)) 0 (beAt 1 s 2)
 
 -- ---- what was given
 
@@ -175,7 +175,7 @@ module _ (sh : Shape) (shape : okShape sh ≡ true) (l : Lent) (q : Request) (ta
     unfolding itemList
     items-left =
         ap₂ orEmpty nothing-refuses (ap stretch written)
-        ∙ ap (λ (n : ℕ). take (16 * n) (drop 56 itsSlot)) (slot-count (inLog l) (l .tail) (entryOf q) few-items)
+        ∙ ap (λ (n : ℕ). take (itemSize * n) (drop itemsBegin itsSlot)) (slot-count (inLog l) (l .tail) (entryOf q) few-items)
         ∙ slot-items (inLog l) (l .tail) (entryOf q) few-headers
 
     read-back : Back sh l q now

@@ -17,7 +17,7 @@ use Rattle.lists.specs.Sets.{all, isEmpty, mem, ascending, ascendingSet, mem-se
 use Rattle.lists.specs.Members.{all-in, in-all, mem-map, map-mem}
 use Rattle.model.specs.Objects.{Shape, isCell}
 use Rattle.model.specs.Entries.{Write, Read, Held, Saved, writtenObjects}
-use Rattle.model.specs.Slot.{valueField}
+use Rattle.model.specs.Slot.{valueField, itemSize}
 use Rattle.model.specs.Rules.{fits, okWrite, okWrites, narrow, readBefore, okRead, okReads, okSaved}
 use Rattle.model.specs.Table.{Cell, lookup, savedOf}
 use Rattle.model.specs.Append.{itemsGiven, notWhole, ifNumbered}
@@ -29,14 +29,14 @@ use Rattle.claims.proofs.Saved.{saved-for, savedAs, keysOf, all-for, fo
 -- ---- items
 
 module _ {A : Type 0} (get : List ℕ → ℕ → A) (items : List ℕ) where
-  many : length (itemsGiven get items) ≡ length items / 16
-  many = length-values (λ i. get items (16 * i)) 0 (length items / 16)
+  many : length (itemsGiven get items) ≡ length items / itemSize
+  many = length-values (λ i. get items (itemSize * i)) 0 (length items / itemSize)
 
-  pub whole-words : notWhole items ≡ false → length items ≡ 16 * length (itemsGiven get items)
-  whole-words e = let z : length items % 16 ≡ 0 = eqb-true _ 0 (not-false _ e) in omega (arith, many)
+  pub whole-words : notWhole items ≡ false → length items ≡ itemSize * length (itemsGiven get items)
+  whole-words e = let z : length items % itemSize ≡ 0 = eqb-true _ 0 (not-false _ e) in omega (arith, many)
 
-  pub words-whole : length items ≡ 16 * length (itemsGiven get items) → notWhole items ≡ false
-  words-whole h = let z : length items % 16 ≡ 0 = omega (arith, many) in ap not (eq-eqb (length items % 16) 0 z)
+  pub words-whole : length items ≡ itemSize * length (itemsGiven get items) → notWhole items ≡ false
+  words-whole h = let z : length items % itemSize ≡ 0 = omega (arith, many) in ap not (eq-eqb (length items % itemSize) 0 z)
 
 -- ---- a test of a transaction number's own
 

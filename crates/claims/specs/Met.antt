@@ -13,7 +13,7 @@ use Rattle.lists.specs.First.{first, firstFrom}
 use Rattle.lists.specs.Equal.{eqList}
 use Rattle.model.specs.Objects.{depots, isObject, isCell, isMarked, hosted}
 use Rattle.model.specs.Entries.{Held, writesOf, closed, decided, headerObjects, numberOf, earlier}
-use Rattle.model.specs.Slot.{writeBytes, writeAt, readBytes, readAt, savedBytes, savedAt, itemBytes, itemCount, headerOf, slotOf, decode, slot, logIn}
+use Rattle.model.specs.Slot.{writeBytes, writeAt, readBytes, readAt, savedBytes, savedAt, itemBytes, itemCount, headerOf, slotOf, decode, slot, logIn, slotSize}
 use Rattle.model.specs.Rules.{okEntry, lowest, lowestBad, okWrite, okWrites, okRead, okReads, okSaved, narrow, goodAt}
 use Rattle.model.specs.Table.{Cell, cellAt, cellBytes, cellsOf, tableWith, apply, savedOf, lookup, store}
 use Rattle.model.specs.Play.{play, commitsOver, step}
@@ -47,7 +47,7 @@ saved = saves (record { hosting = 255; position = 3; count = 1 }) (holding (cell
 -- six slots of junk; the commit record of 9 is at 2, the checkpoint at 3, the decision at 4, the commit record of 10 at 5
 abbrev pub met : History
 met = record {
-  bytes = replicate (256 * 6) 7;
+  bytes = replicate (slotSize * 6) 7;
   requests = update 9 (put 5 1 6) ∷ update 10 (put 5 1 7) ∷ unasked ∷ commits 9 (read 2 7 0) ∷ saved ∷ decides 2 1 ∷ commits 10 (read 5 1 0) ∷ [];
 }
 

@@ -11,8 +11,8 @@ use Rattle.lists.specs.Bytes.{beAt, beAt-same}
 use Rattle.lists.specs.Rows.{joined, values-same}
 use Rattle.model.specs.Objects.{Shape, everything}
 use Rattle.model.specs.Entries.{Log}
-use Rattle.model.specs.Slot.{slotOf, logIn, logOf}
-use Rattle.model.specs.Table.{Cell, cellAt, cellBytes, cellsOf, tableWith, capacity}
+use Rattle.model.specs.Slot.{slotOf, logIn, logOf, slotSize}
+use Rattle.model.specs.Table.{Cell, cellAt, cellBytes, cellsOf, tableWith, capacity, cellSize}
 use Rattle.model.specs.Play.{Played, going, waits, lacks}
 use Rattle.model.specs.Answers.{Refusal, Answer, firstOf, frameAndEntries}
 use Rattle.model.specs.Reading.{check, owed, entryCall, itemList, streamNext, streamList}
@@ -22,7 +22,7 @@ use Rattle.laws.proofs.Tables.{length-stored}
 
 -- ---- the log
 
-pub log-same : (a b : List ℕ) (tail : ℕ) → length a ≡ length b → take (256 * tail) a ≡ take (256 * tail) b → logOf a tail ≡ logOf b tail
+pub log-same : (a b : List ℕ) (tail : ℕ) → length a ≡ length b → take (slotSize * tail) a ≡ take (slotSize * tail) b → logOf a tail ≡ logOf b tail
 log-same a b tail e f = ap₂ (λ (n : ℕ) (l : List ℕ). logIn n tail l) e f
 
 -- two slices that answer alike at a tail, whatever else a call is given
@@ -43,7 +43,7 @@ answered : (a b s s′ : List ℕ) (tail : ℕ) (x : Option Refusal) → appendG
 answered a b s s′ tail none = refl
 answered a b s s′ tail (some r) = refl
 
-pub depends-log : (sh : Shape) (a b : List ℕ) (tail : ℕ) → length a ≡ length b → take (256 * tail) a ≡ take (256 * tail) b → Alike sh a b tail
+pub depends-log : (sh : Shape) (a b : List ℕ) (tail : ℕ) → length a ≡ length b → take (slotSize * tail) a ≡ take (slotSize * tail) b → Alike sh a b tail
 unfolding append logIn
 depends-log sh a b tail e f =
     let same : logOf a tail ≡ logOf b tail = log-same a b tail e f in
@@ -63,17 +63,17 @@ depends-log sh a b tail e f =
 
 -- ---- the table
 
-module _ (s t : List ℕ) (count : ℕ) (e : take (24 * count) s ≡ take (24 * count) t) where
-  byte-same : (k : ℕ) → k < 24 * count → getD s k 0 ≡ getD t k 0
-  byte-same k h = sym (getD-take (24 * count) s k 0 h) ∙ ap (λ l. getD l k 0) e ∙ getD-take (24 * count) t k 0 h
+module _ (s t : List ℕ) (count : ℕ) (e : take (cellSize * count) s ≡ take (cellSize * count) t) where
+  byte-same : (k : ℕ) → k < cellSize * count → getD s k 0 ≡ getD t k 0
+  byte-same k h = sym (getD-take (cellSize * count) s k 0 h) ∙ ap (λ l. getD l k 0) e ∙ getD-take (cellSize * count) t k 0 h
 
-  be-same : (n i : ℕ) → i + n ≤ 24 * count → beAt n s i ≡ beAt n t i
+  be-same : (n i : ℕ) → i + n ≤ cellSize * count → beAt n s i ≡ beAt n t i
   be-same n i h = beAt-same n s t i i (λ k l. byte-same (i + k) (omega arith))
 
-  cell-same : (i : ℕ) → i < count → cellAt s (24 * i) ≡ cellAt t (24 * i)
+  cell-same : (i : ℕ) → i < count → cellAt s (cellSize * i) ≡ cellAt t (cellSize * i)
   unfolding cellAt
   cell-same i h =
-      rw (be-same 4 (24 * i) (omega arith), be-same 4 (24 * i + 4) (omega arith), be-same 4 (24 * i + 8) (omega arith), be-same 4 (24 * i + 12) (omega arith), be-same 8 (24 * i + 16) (omega arith))
+      rw (be-same 4 (cellSize * i) (omega arith), be-same 4 (cellSize * i + 4) (omega arith), be-same 4 (cellSize * i + 8) (omega arith), be-same 4 (cellSize * i + 12) (omega arith), be-same 8 (cellSize * i + 16) (omega arith))
 
   pub cells-same : cellsOf s count ≡ cellsOf t count
   unfolding cellsOf
@@ -83,11 +83,11 @@ module _ (s t : List ℕ) (count : ℕ) (e : take (24 * count) s ≡ take (24 * 
 pub record LeftAlike (a b : Left) : Type 0 where
   pub answers : a .answer ≡ b .answer
   pub replicas : a .replica ≡ b .replica
-  pub counted : take (24 * a .replica .count) (a .table) ≡ take (24 * a .replica .count) (b .table)
+  pub counted : take (cellSize * a .replica .count) (a .table) ≡ take (cellSize * a .replica .count) (b .table)
 
 -- what a call left past the counted cells is the caller's own
 abbrev pub RestKept : Left → List ℕ → Type 0
-RestKept a table = drop (24 * a .replica .count) (a .table) ≡ drop (24 * a .replica .count) table
+RestKept a table = drop (cellSize * a .replica .count) (a .table) ≡ drop (cellSize * a .replica .count) table
 
 with-alike : (a : Answer (Unit {0})) (set p : ℕ) (s t : List ℕ) (cs : List Cell) → LeftAlike (leftWith a set p s cs) (leftWith a set p t cs)
 unfolding tableWith
@@ -97,12 +97,12 @@ with-alike a set p s t cs = record {
   counted = take-at (joined cellBytes cs) _ _ (length-stored cs) ∙ sym (take-at (joined cellBytes cs) _ _ (length-stored cs));
 }
 
-with-rest : (t : List ℕ) (cs : List Cell) → drop (24 * length cs) (tableWith t cs) ≡ drop (24 * length cs) t
+with-rest : (t : List ℕ) (cs : List Cell) → drop (cellSize * length cs) (tableWith t cs) ≡ drop (cellSize * length cs) t
 unfolding tableWith
 with-rest t cs = drop-at (joined cellBytes cs) _ _ (length-stored cs)
 
 module _ (r : Replica) (stop : ℕ) (s t : List ℕ) where
-  play-alike : (p : Played) (x : Option Refusal) → take (24 * r .count) s ≡ take (24 * r .count) t → LeftAlike (playGiven r stop s p x) (playGiven r stop t p x)
+  play-alike : (p : Played) (x : Option Refusal) → take (cellSize * r .count) s ≡ take (cellSize * r .count) t → LeftAlike (playGiven r stop s p x) (playGiven r stop t p x)
   play-alike (going cs) none e = with-alike _ _ _ s t cs
   play-alike (waits q cs) none e = with-alike _ _ _ s t cs
   play-alike (lacks q cs) none e = with-alike _ _ _ s t cs
@@ -149,7 +149,7 @@ module _ (sh : Shape) (log : Log) (s t : List ℕ) (len : length s ≡ length t)
   audit-same = rw len (audit-alike (everything sh) (log .tail) s t (lowestFalse sh log (capacity t)) (auditPlay sh log (capacity t) (log .tail)) (firstOf (frameAndEntries sh log)))
 
 -- two tables of one length, with the same counted cells
-module _ (sh : Shape) (r : Replica) (s t : List ℕ) (len : length s ≡ length t) (e : take (24 * r .count) s ≡ take (24 * r .count) t) where
+module _ (sh : Shape) (r : Replica) (s t : List ℕ) (len : length s ≡ length t) (e : take (cellSize * r .count) s ≡ take (cellSize * r .count) t) where
   pub read-same : (o k : ℕ) → readCell sh r s o k ≡ readCell sh r t o k
   unfolding readCell
   read-same o k = rw (len, cells-same s t (r .count) e)

@@ -13,7 +13,7 @@ use Rattle.lists.specs.Rows.{joined}
 use Rattle.lists.specs.Sets.{meets}
 use Rattle.model.specs.Objects.{Shape, hosted}
 use Rattle.model.specs.Entries.{Write, Effect, writes, aside, tries, inert, effect, Log, writesOf, headerObjects}
-use Rattle.model.specs.Table.{Cell, cellBytes, cellsOf, tableWith, capacity, apply}
+use Rattle.model.specs.Table.{Cell, cellBytes, cellsOf, tableWith, capacity, apply, cellSize}
 use Rattle.model.specs.Play.{Played, going, waits, lacks, cellsIn, versionAt, outcome, make, finish, act, step, andThen, play}
 use Rattle.model.specs.Answers.{Refusal, refuse, frameAndEntries}
 use Rattle.model.specs.Append.{Replica, badReplica}
@@ -61,7 +61,7 @@ module _ (log : Log) (set : List ℕ) (room : ℕ) where
 
 pub length-with : (t : List ℕ) (cs : List Cell) → length cs ≤ capacity t → length (tableWith t cs) ≡ length t
 unfolding tableWith
-length-with t cs h = omega (arith, length-append (joined cellBytes cs) (drop (24 * length cs) t), length-stored cs, length-drop (24 * length cs) t)
+length-with t cs h = omega (arith, length-append (joined cellBytes cs) (drop (cellSize * length cs) t), length-stored cs, length-drop (cellSize * length cs) t)
 
 -- what a play leaves: a table as long, and, where the count fitted, a count that fits
 pub record Fitting (t : List ℕ) (a : Left) : Type 0 where

@@ -15,26 +15,26 @@ use Rattle.lists.specs.Tests.{both}
 use Rattle.lists.specs.Sets.{all, all-getD}
 use Rattle.lists.specs.First.{seeking-from}
 use Rattle.lists.specs.Every.{failing, every-all}
-use Rattle.model.specs.Table.{Cell, cellAt, cellBytes, cellsOf, tableWith}
+use Rattle.model.specs.Table.{Cell, cellAt, cellBytes, cellsOf, tableWith, cellSize}
 use Rattle.laws.proofs.Items.{fitsCell, length-cell, cell-back}
 
 pub length-cells : (table : List ℕ) (count : ℕ) → length (cellsOf table count) ≡ count
 unfolding cellsOf
 length-cells table count = length-values _ 0 count
 
-pub length-stored : (cells : List Cell) → length (joined cellBytes cells) ≡ 24 * length cells
+pub length-stored : (cells : List Cell) → length (joined cellBytes cells) ≡ cellSize * length cells
 length-stored cells = length-joined cellBytes 24 length-cell cells
 
 -- the places as the laws of rows have them
-cells-from : (table : List ℕ) (count : ℕ) → cellsOf table count ≡ values (λ i. cellAt table (0 + 24 * i)) 0 count
+cells-from : (table : List ℕ) (count : ℕ) → cellsOf table count ≡ values (λ i. cellAt table (0 + cellSize * i)) 0 count
 unfolding cellsOf
-cells-from table count = values-same _ _ 0 count (λ k l m. ap (cellAt table) (sym (zero-add (24 * k))))
+cells-from table count = values-same _ _ 0 count (λ k l m. ap (cellAt table) (sym (zero-add (cellSize * k))))
 
 pub cells-back : (table : List ℕ) (cells : List Cell) → all fitsCell cells ≡ true → cellsOf (tableWith table cells) (length cells) ≡ cells
 unfolding tableWith
 cells-back table cells h =
     cells-from (tableWith table cells) (length cells)
-    ∙ values-joined cellBytes cellAt 24 fitsCell length-cell cell-back [] cells (drop (24 * length cells) table) 0 refl h
+    ∙ values-joined cellBytes cellAt 24 fitsCell length-cell cell-back [] cells (drop (cellSize * length cells) table) 0 refl h
 
 module _ (table : List ℕ) (bytes : all (λ x. ltb x 256) table ≡ true) where
   small : (k : ℕ) → getD table k 0 < 256
@@ -50,19 +50,19 @@ module _ (table : List ℕ) (bytes : all (λ x. ltb x 256) table ≡ true) where
       ap₂ (λ (a b : List ℕ). a ++ b) e (word n (i + m) h ∙ ap (take n) (sym (drop-drop m i table))) ∙ sym (take-add m n (drop i table))
 
   -- a cell's bytes
-  pub cell-bytes : (i : ℕ) → i + 24 ≤ length table → cellBytes (cellAt table i) ≡ take 24 (drop i table)
+  pub cell-bytes : (i : ℕ) → i + cellSize ≤ length table → cellBytes (cellAt table i) ≡ take 24 (drop i table)
   unfolding cellAt cellBytes
   cell-bytes i h =
       next 16 8 i (omega arith) (next 12 4 i (omega arith) (next 8 4 i (omega arith) (next 4 4 i (omega arith) (word 4 i (omega arith)))))
 
-  pub table-back : (count : ℕ) → 24 * count ≤ length table → tableWith table (cellsOf table count) ≡ table
+  pub table-back : (count : ℕ) → cellSize * count ≤ length table → tableWith table (cellsOf table count) ≡ table
   unfolding tableWith
   table-back count h =
       ap₂ (λ (a b : List ℕ). a ++ b)
       (ap (joined cellBytes) (cells-from table count)
-      ∙ joined-values cellBytes cellAt 24 table 0 count (λ k l. cell-bytes (0 + 24 * k) (omega arith)))
-      (ap (λ (n : ℕ). drop (24 * n) table) (length-cells table count))
-      ∙ take-append-drop (24 * count) table
+      ∙ joined-values cellBytes cellAt 24 table 0 count (λ k l. cell-bytes (0 + cellSize * k) (omega arith)))
+      (ap (λ (n : ℕ). drop (cellSize * n) table) (length-cells table count))
+      ∙ take-append-drop (cellSize * count) table
 
   -- a cell read from bytes fits them
   cell-fits : (i : ℕ) → fitsCell (cellAt table i) ≡ true
@@ -75,5 +75,5 @@ module _ (table : List ℕ) (bytes : all (λ x. ltb x 256) table ≡ true) where
   pub cells-fit : (count : ℕ) → all fitsCell (cellsOf table count) ≡ true
   unfolding cellsOf
   cells-fit count =
-      every-all fitsCell (λ i. cellAt table (24 * i))
-      (seeking-from (failing fitsCell (λ i. cellAt table (24 * i))) count count (omega arith) (λ i l. ap not (cell-fits (24 * i)))) (omega arith)
+      every-all fitsCell (λ i. cellAt table (cellSize * i))
+      (seeking-from (failing fitsCell (λ i. cellAt table (cellSize * i))) count count (omega arith) (λ i l. ap not (cell-fits (cellSize * i)))) (omega arith)

@@ -11,7 +11,7 @@ use lib.ListN.{length}
 use Rattle.lists.specs.Sets.{mem}
 use Rattle.model.specs.Objects.{Shape, isCell, hosted}
 use Rattle.model.specs.Entries.{Write, Read, Held, Saved, Claim, numbered, commit, decision, Log}
-use Rattle.model.specs.Slot.{slotSize, mostSlots}
+use Rattle.model.specs.Slot.{slotSize, mostSlots, itemSize}
 use Rattle.model.specs.Rules.{goodAt}
 use Rattle.model.specs.Table.{Holds, cellsOf, capacity, versionIn, lookup}
 use Rattle.model.specs.Answers.{done}
@@ -102,7 +102,7 @@ pub record Writes (sh : Shape) (w : Write) : Type 0 where
   pub small : w .value < 2 ^ 32
 
 pub record UpdateAllowed (sh : Shape) (log : Log) (n : ℕ) (items : List ℕ) : Type 0 where
-  pub whole : length items ≡ 16 * length (writesGiven items)
+  pub whole : length items ≡ itemSize * length (writesGiven items)
   pub number : n < 2 ^ 32
   pub some : 1 ≤ length (writesGiven items)
   pub few : length (writesGiven items) ≤ sh .items
@@ -119,7 +119,7 @@ Ascend (r ∷ []) = Unit {0}
 Ascend (r ∷ s ∷ rs) = ((r .object < s .object) ⊎ ((r .object ≡ s .object) × (r .key < s .key))) × Ascend (s ∷ rs)
 
 pub record CommitAllowed (sh : Shape) (log : Log) (n : ℕ) (items : List ℕ) : Type 0 where
-  pub whole : length items ≡ 16 * length (claimGiven items .reads)
+  pub whole : length items ≡ itemSize * length (claimGiven items .reads)
   pub number : (1 ≤ n) × (n < 2 ^ 32)
   pub few : length (claimGiven items .reads) ≤ sh .items
   pub each : (x : Read) → List·Memᴰ x (claimGiven items .reads) → (isCell sh x.object x.key ≡ true) × (x .version ≤ log .tail)

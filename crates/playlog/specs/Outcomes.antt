@@ -12,7 +12,7 @@ use Rattle.lists.specs.First.{Seeking}
 use Rattle.lists.specs.Every.{failing, every-not, every-all}
 use Rattle.model.specs.Objects.{depots}
 use Rattle.model.specs.Entries.{Read, Log}
-use Rattle.model.specs.Slot.{readAt}
+use Rattle.model.specs.Slot.{readAt, itemSize}
 use Rattle.model.specs.Table.{Holds, versionIn}
 use Rattle.model.specs.Play.{commitsOver}
 use Rattle.model.specs.Answers.{Answer, done, refused}
@@ -61,13 +61,13 @@ metAt log p x r t = stands log p r t (isCommit x)
 
 module _ (cells : Holds) (items : List ℕ) where
   abbrev readHere : ℕ → Read
-  readHere i = readAt items (16 * i)
+  readHere i = readAt items (itemSize * i)
 
   abbrev pub stale : ℕ → Bool
   stale = failing (current cells) readHere
 
   -- the loop over the n reads met a stale one, or none
-  module _ {n k : ℕ} (e : n ≡ length items / 16) (s : Seeking stale n k) where
+  module _ {n k : ℕ} (e : n ≡ length items / itemSize) (s : Seeking stale n k) where
     outcome-by : (b : Bool) → all (current cells) (values readHere 0 n) ≡ b → b ≡ commitsOver cells (claimGiven items)
     unfolding commitsOver
     outcome-by b h = sym h ∙ ap (λ (m : ℕ). all (current cells) (values readHere 0 m)) e

@@ -19,7 +19,7 @@ use Rattle.lists.specs.First.{first, firstFrom}
 use Rattle.lists.specs.Equal.{eqList}
 use Rattle.model.specs.Objects.{isObject, isCell, isMarked, hosted}
 use Rattle.model.specs.Entries.{writesOf, closed, decided, headerObjects, numberOf, earlier}
-use Rattle.model.specs.Slot.{writeBytes, writeAt, readBytes, readAt, savedBytes, savedAt, itemBytes, itemCount, headerOf, slotOf, decode, slot, logIn}
+use Rattle.model.specs.Slot.{writeBytes, writeAt, readBytes, readAt, savedBytes, savedAt, itemBytes, itemCount, headerOf, slotOf, decode, slot, logIn, slotSize}
 use Rattle.model.specs.Rules.{okEntry, lowest, lowestBad, okWrite, okWrites, okRead, okReads, okSaved, narrow, goodAt}
 use Rattle.model.specs.Table.{cellAt, cellBytes, cellsOf, tableWith, apply, savedOf, lookup, store}
 use Rattle.model.specs.Play.{play, commitsOver, step}
@@ -35,7 +35,7 @@ abbrev base : List Request
 base = update 0 (put 2 7 4) ∷ update 9 (put 2 7 1 ++ put 5 1 2) ∷ commits 9 [] ∷ decides 2 1 ∷ []
 
 abbrev four : ℕ → Lent
-four slots = grown small (empty (replicate (256 * slots) 7)) base
+four slots = grown small (empty (replicate (slotSize * slots) 7)) base
 
 -- the numbers that a list of appends gets, each on the same log; 0 for done
 abbrev codes : Lent → List Request → List ℕ

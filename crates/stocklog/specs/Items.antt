@@ -9,7 +9,7 @@ use lib.ListN.{take}
 use borrow.Author.Tests.{leb-false}
 use Rattle.model.specs.Objects.{depots}
 use Rattle.model.specs.Entries.{Log}
-use Rattle.model.specs.Slot.{slot, logIn, logOf}
+use Rattle.model.specs.Slot.{slot, logIn, logOf, mostSlots, slotSize}
 use Rattle.model.specs.Rules.{lowestBad}
 use Rattle.model.specs.Answers.{Refusal, done, refuse, refuseAt, firstOf, answer, badFrame}
 use Rattle.model.specs.Reading.{Info, infoIn, entryRefusal, entryCall, stretch, orEmpty, itemList}
@@ -32,7 +32,7 @@ module _ (bytes : List ℕ) (tail o : ℕ) where
   log = logOf bytes tail
 
   abbrev s : List ℕ
-  s = slot (take (256 * tail) bytes) o
+  s = slot (take (slotSize * tail) bytes) o
 
   -- the entry call refuses nothing
   module _ (e : entryRefusal depots log o ≡ none) where
@@ -51,7 +51,7 @@ module _ (bytes : List ℕ) (tail o : ℕ) where
     good = good-all depots log (refuseAt-none 2 (lowestBad depots log) (passed .1))
 
   -- an entry that is told lies below the tail
-  pub entry-placed : (i : Info) → entryCall depots log o ≡ done i → o < 131072
+  pub entry-placed : (i : Info) → entryCall depots log o ≡ done i → o < mostSlots
   unfolding entryCall
   entry-placed i e =
       let n : entryRefusal depots log o ≡ none = sym (told-answer (entryRefusal depots log o) (infoIn (slot (log .used) o))) ∙ ap told e in

@@ -4,6 +4,7 @@ use mathlib.Core.List.{List, [], _∷_, _++_}
 use mathlib.Core.Option.{Option, none, some}
 use Prim.Native.Nat.{ℕ, zero, suc, _*_}
 use lib.ListN.{length, take, drop, getD}
+use Rattle.model.specs.Slot.{itemSize}
 use Rattle.model.specs.Objects.{Shape}
 use Rattle.model.specs.Entries.{Held, Log}
 use Rattle.model.specs.Answers.{Answer, done, refused}
@@ -95,7 +96,7 @@ headerReply a = coded headerValues noValues a
 
 -- the items of the entry at o: byte position in the log, length in bytes. Refused as the entry call is.
 abbrev pub itemsReply : ℕ → Answer Info → Reply
-itemsReply o a = coded (λ i. values (itemsAt o) (16 * i .items) 0) noValues a
+itemsReply o a = coded (λ i. values (itemsAt o) (itemSize * i .items) 0) noValues a
 
 -- that part of the log's bytes
 abbrev pub partSaid : Reply → List ℕ → List ℕ

@@ -15,7 +15,7 @@ use Rattle.lists.specs.Tests.{both, clash}
 use Rattle.lists.specs.Rows.{values, length-values, getD-values}
 use Rattle.model.specs.Objects.{depots, isCell}
 use Rattle.model.specs.Entries.{Held}
-use Rattle.model.specs.Table.{Cell, isOf, cellAt, cellsOf, store}
+use Rattle.model.specs.Table.{Cell, isOf, cellAt, cellsOf, store, cellSize}
 use Rattle.table.specs.Rows.{further, rowIn}
 use Rattle.table.specs.RowLaws.{is-of, same-cell, row-stored, row-store-other, row-kept}
 use Rattle.table.specs.Places.{placeOf, movedBy, Index, place-below, place-apart}
@@ -88,14 +88,14 @@ module _ {cs : List Cell} {index : List ℕ} (x : Index cs 0 index) (o k : ℕ) 
 
 -- ---- the rows of a table from place i on
 
-drop-row : (t : List ℕ) (count i : ℕ) → i < count → drop i (cellsOf t count) ≡ cellAt t (24 * i) ∷ drop (i + 1) (cellsOf t count)
+drop-row : (t : List ℕ) (count i : ℕ) → i < count → drop i (cellsOf t count) ≡ cellAt t (cellSize * i) ∷ drop (i + 1) (cellsOf t count)
 unfolding cellsOf
 drop-row t count i l =
-    let g : ℕ → Cell = λ j. cellAt t (24 * j) in
+    let g : ℕ → Cell = λ j. cellAt t (cellSize * j) in
     drop-cons (values g 0 count) i (g 0) (omega (arith, length-values g 0 count))
     ∙ ap₂ (λ (c : Cell) (m : ℕ). c ∷ drop m (values g 0 count)) (getD-values g 0 count i (g 0) l ∙ ap g (zero-add i)) (sym (add-one i))
 
-module _ (t : List ℕ) (count i : ℕ) (l : i < count) {index : List ℕ} (c : Cell) (e : c ≡ cellAt t (24 * i)) (x : Index (drop (i + 1) (cellsOf t count)) (i + 1) index) where
+module _ (t : List ℕ) (count i : ℕ) (l : i < count) {index : List ℕ} (c : Cell) (e : c ≡ cellAt t (cellSize * i)) (x : Index (drop (i + 1) (cellsOf t count)) (i + 1) index) where
   back : {xs : List ℕ} → Index (c ∷ drop (i + 1) (cellsOf t count)) i xs → Index (drop i (cellsOf t count)) i xs
   back {xs} y = subst (λ (cs : List Cell). Index cs i xs) (ap (λ (d : Cell). d ∷ drop (i + 1) (cellsOf t count)) e ∙ sym (drop-row t count i l)) y
 

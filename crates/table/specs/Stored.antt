@@ -18,7 +18,7 @@ use Rattle.lists.specs.Splice.{splice, splice-then}
 use Rattle.model.specs.Entries.{Held}
 use Rattle.model.specs.Slot.{valueField}
 use Rattle.model.specs.Rules.{fits}
-use Rattle.model.specs.Table.{Cell, cellAt, cellBytes, cellsOf, tableWith, isOf, heldBy, lookup, cellOf, store}
+use Rattle.model.specs.Table.{Cell, cellAt, cellBytes, cellsOf, tableWith, isOf, heldBy, lookup, cellOf, store, cellSize}
 use Rattle.laws.proofs.Items.{fitsCell, length-cell}
 use Rattle.laws.proofs.Tables.{length-cells, length-stored, cells-back, table-back, cells-fit}
 use Rattle.laws.proofs.Stored.{bytes-all}
@@ -27,10 +27,10 @@ use Rattle.table.specs.RowLaws.{row-some, store-new, store-old, row-stor
 
 -- what a counted row holds
 pub row-held : (t : List ℕ) (count row o k : ℕ) → row ≡ rowIn (cellsOf t count) o k → 1 ≤ row
-    → (row ≤ count) × (lookup (cellsOf t count) o k ≡ some (heldBy (cellAt t (24 * (row - 1)))))
+    → (row ≤ count) × (lookup (cellsOf t count) o k ≡ some (heldBy (cellAt t (cellSize * (row - 1)))))
 unfolding cellsOf
 row-held t count row o k e l =
-    let g : ℕ → Cell = λ i. cellAt t (24 * i) in
+    let g : ℕ → Cell = λ i. cellAt t (cellSize * i) in
     let i : ℕ = row - 1 in
     let r : rowIn (values g 0 count) o k ≡ suc i = omega (arith, e) in
     let h = row-some (values g 0 count) o k i (g 0) r in
@@ -47,7 +47,7 @@ splice-mid a b b′ z i n e =
     (drop-at (a ++ b) z (i + length b′) (omega (arith, length-append a b)))
 
 -- the five fields put in one after the other
-pub row-put : (t : List ℕ) (s : ℕ) (c : Cell) {t₁ t₂ t₃ t₄ t₅ : List ℕ} → s + 24 ≤ length t
+pub row-put : (t : List ℕ) (s : ℕ) (c : Cell) {t₁ t₂ t₃ t₄ t₅ : List ℕ} → s + cellSize ≤ length t
     → t₁ ≡ splice t s (bytesOf 4 (c .object))
     → t₂ ≡ splice t₁ (s + 4) (bytesOf 4 (c .key))
     → t₃ ≡ splice t₂ (s + 8) (bytesOf 4 (c .value))
@@ -71,10 +71,10 @@ row-put t s c h e₁ e₂ e₃ e₄ e₅ =
 
 -- the bytes of a table with a row in the middle
 with-mid : (t : List ℕ) (p : List Cell) (c : Cell) (q : List Cell) (n : ℕ) → length (p ++ c ∷ q) ≡ n
-    → tableWith t (p ++ c ∷ q) ≡ joined cellBytes p ++ cellBytes c ++ (joined cellBytes q ++ drop (24 * n) t)
+    → tableWith t (p ++ c ∷ q) ≡ joined cellBytes p ++ cellBytes c ++ (joined cellBytes q ++ drop (cellSize * n) t)
 unfolding tableWith joined
 with-mid t p c q n e =
-    ap₂ (λ (a b : List ℕ). a ++ b) (joined-append cellBytes p (c ∷ q)) (ap (λ (m : ℕ). drop (24 * m) t) e) ∙ simp append-assoc
+    ap₂ (λ (a b : List ℕ). a ++ b) (joined-append cellBytes p (c ∷ q)) (ap (λ (m : ℕ). drop (cellSize * m) t) e) ∙ simp append-assoc
 
 -- what a cell whose fields fit holds
 held-fits : (c : Cell) → fitsCell c ≡ true → fits 4 (valueField (heldBy c .content)) ≡ true
@@ -93,8 +93,8 @@ lookup-fits (c ∷ cs) a o k h e = go (isOf o k c) e (λ f. lookup-fits cs (and-
     go true e ih = let p : heldBy c ≡ h = cc in subst (λ (x : Held). fits 4 (valueField (x .content)) ≡ true) p (held-fits c (and-l (fitsCell c) (all fitsCell cs) a))
     go false e ih = ih e
 
-module _ (t : List ℕ) (bytes : all (λ x. ltb x 256) t ≡ true) (count : ℕ) (room : 24 * count ≤ length t) where
-  pub row-replaced : (i : ℕ) (c : Cell) → i < count → splice t (24 * i) (cellBytes c) ≡ tableWith t (set (cellsOf t count) i c)
+module _ (t : List ℕ) (bytes : all (λ x. ltb x 256) t ≡ true) (count : ℕ) (room : cellSize * count ≤ length t) where
+  pub row-replaced : (i : ℕ) (c : Cell) → i < count → splice t (cellSize * i) (cellBytes c) ≡ tableWith t (set (cellsOf t count) i c)
   row-replaced i c l =
       let cs = cellsOf t count in
       let n : length cs ≡ count = length-cells t count in
@@ -104,29 +104,29 @@ module _ (t : List ℕ) (bytes : all (λ x. ltb x 256) t ≡ true) (count : ℕ)
       let u : i < length cs = omega (arith, n) in
       let split : cs ≡ p ++ old ∷ q = split-at cs i c u in
       let new : set cs i c ≡ p ++ c ∷ q = set-split cs i c u in
-      let at : length (joined cellBytes p) ≡ 24 * i = length-stored p ∙ ap (λ (m : ℕ). 24 * m) (length-take-le i cs (omega (arith, n))) in
-      ap (λ (s : List ℕ). splice s (24 * i) (cellBytes c)) (sym (table-back t bytes count room) ∙ ap (tableWith t) split ∙ with-mid t p old q count (ap length (sym split) ∙ n))
-      ∙ splice-mid (joined cellBytes p) (cellBytes old) (cellBytes c) (joined cellBytes q ++ drop (24 * count) t) (24 * i) at (length-cell old ∙ sym (length-cell c))
+      let at : length (joined cellBytes p) ≡ cellSize * i = length-stored p ∙ ap (λ (m : ℕ). cellSize * m) (length-take-le i cs (omega (arith, n))) in
+      ap (λ (s : List ℕ). splice s (cellSize * i) (cellBytes c)) (sym (table-back t bytes count room) ∙ ap (tableWith t) split ∙ with-mid t p old q count (ap length (sym split) ∙ n))
+      ∙ splice-mid (joined cellBytes p) (cellBytes old) (cellBytes c) (joined cellBytes q ++ drop (cellSize * count) t) (cellSize * i) at (length-cell old ∙ sym (length-cell c))
       ∙ sym (ap (tableWith t) new ∙ with-mid t p c q count (ap length (sym new) ∙ length-set cs i c ∙ n))
 
-  pub row-appended : (c : Cell) → splice t (24 * count) (cellBytes c) ≡ tableWith t (cellsOf t count ++ (c ∷ []))
+  pub row-appended : (c : Cell) → splice t (cellSize * count) (cellBytes c) ≡ tableWith t (cellsOf t count ++ (c ∷ []))
   unfolding splice joined tableWith
   row-appended c =
       let cs = cellsOf t count in
       let n : length cs ≡ count = length-cells t count in
-      let e : 24 * count + length (cellBytes c) ≡ 24 * (count + 1) = omega (arith, length-cell c) in
+      let e : cellSize * count + length (cellBytes c) ≡ cellSize * (count + 1) = omega (arith, length-cell c) in
       let m : length (cs ++ (c ∷ [])) ≡ count + 1 = length-append cs (c ∷ []) ∙ ap (λ (k : ℕ). k + 1) n in
       ap₂ (λ (a b : List ℕ). a ++ cellBytes c ++ b)
-      (ap (take (24 * count)) (sym (table-back t bytes count room)) ∙ take-at (joined cellBytes cs) (drop (24 * length cs) t) (24 * count) (length-stored cs ∙ ap (λ (k : ℕ). 24 * k) n))
+      (ap (take (cellSize * count)) (sym (table-back t bytes count room)) ∙ take-at (joined cellBytes cs) (drop (cellSize * length cs) t) (cellSize * count) (length-stored cs ∙ ap (λ (k : ℕ). cellSize * k) n))
       (ap (λ (k : ℕ). drop k t) e)
       ∙ sym (with-mid t cs c [] (count + 1) m)
 
   -- a cell stored, in its row or in a new one
-  pub cell-stored : (o k : ℕ) (h : Held) → splice t (24 * (rowIn (store (cellsOf t count) o k h) o k - 1)) (cellBytes (cellOf o k h)) ≡ tableWith t (store (cellsOf t count) o k h)
+  pub cell-stored : (o k : ℕ) (h : Held) → splice t (cellSize * (rowIn (store (cellsOf t count) o k h) o k - 1)) (cellBytes (cellOf o k h)) ≡ tableWith t (store (cellsOf t count) o k h)
   cell-stored o k h = go (rowIn (cellsOf t count) o k) refl
     where
       go : (r : ℕ) → rowIn (cellsOf t count) o k ≡ r
-          → splice t (24 * (rowIn (store (cellsOf t count) o k h) o k - 1)) (cellBytes (cellOf o k h)) ≡ tableWith t (store (cellsOf t count) o k h)
+          → splice t (cellSize * (rowIn (store (cellsOf t count) o k h) o k - 1)) (cellBytes (cellOf o k h)) ≡ tableWith t (store (cellsOf t count) o k h)
       go zero e =
           let at : rowIn (store (cellsOf t count) o k h) o k - 1 ≡ count = omega (arith, row-store-new (cellsOf t count) o k h e, length-cells t count) in
           rw (at, store-new (cellsOf t count) o k h e) (row-appended (cellOf o k h))
@@ -137,8 +137,8 @@ module _ (t : List ℕ) (bytes : all (λ x. ltb x 256) t ≡ true) (count : ℕ)
 
 -- ---- a call that stores a cell: the count and the bytes that it leaves
 
-pub cell-written : (t : List ℕ) (count row o k : ℕ) (h : Held) → ((j : ℕ) → getD t j 0 < 256) → 24 * count ≤ length t
-    → rowIn (store (cellsOf t count) o k h) o k ≡ row → (t′ : List ℕ) → t′ ≡ splice t (24 * (row - 1)) (cellBytes (cellOf o k h))
+pub cell-written : (t : List ℕ) (count row o k : ℕ) (h : Held) → ((j : ℕ) → getD t j 0 < 256) → cellSize * count ≤ length t
+    → rowIn (store (cellsOf t count) o k h) o k ≡ row → (t′ : List ℕ) → t′ ≡ splice t (cellSize * (row - 1)) (cellBytes (cellOf o k h))
     → (b : Bool) → ltb count row ≡ b
     → _≡_ {A = ℕ × List ℕ} (cond b (count + 1) count, t′) (length (store (cellsOf t count) o k h), tableWith t (store (cellsOf t count) o k h))
 cell-written t count row o k h small room e t′ f b u =
@@ -148,7 +148,7 @@ cell-written t count row o k h small room e t′ f b u =
     let size : cond b (count + 1) count ≡ length (store cs o k h) =
     sym (length-by-row cs o k h ∙ (λ j. cond (v j) (n j + 1) (n j))) in
     let left : t′ ≡ tableWith t (store cs o k h) =
-    f ∙ ap (λ (r : ℕ). splice t (24 * (r - 1)) (cellBytes (cellOf o k h))) (sym e) ∙ cell-stored t (bytes-all t (λ j l. small j)) count room o k h in
+    f ∙ ap (λ (r : ℕ). splice t (cellSize * (r - 1)) (cellBytes (cellOf o k h))) (sym e) ∙ cell-stored t (bytes-all t (λ j l. small j)) count room o k h in
     λ j. (size j, left j)
 
 -- ---- the cells then
@@ -165,20 +165,20 @@ module _ (t : List ℕ) (bytes : all (λ x. ltb x 256) t ≡ true) (count : ℕ)
 
 -- ---- the bytes of a table with cells
 
-pub length-tableWith : (t : List ℕ) (cs : List Cell) → 24 * length cs ≤ length t → length (tableWith t cs) ≡ length t
+pub length-tableWith : (t : List ℕ) (cs : List Cell) → cellSize * length cs ≤ length t → length (tableWith t cs) ≡ length t
 unfolding tableWith
 length-tableWith t cs h =
-    length-append (joined cellBytes cs) (drop (24 * length cs) t) ∙ omega (arith, length-stored cs, length-drop (24 * length cs) t)
+    length-append (joined cellBytes cs) (drop (cellSize * length cs) t) ∙ omega (arith, length-stored cs, length-drop (cellSize * length cs) t)
 
 -- cells stored twice: the second counts, if they are no fewer
 pub table-again : (t : List ℕ) (cs ds : List Cell) → length cs ≤ length ds → tableWith (tableWith t cs) ds ≡ tableWith t ds
 unfolding tableWith
 table-again t cs ds h =
-    let n : ℕ = 24 * length ds - 24 * length cs in
-    let e : 24 * length ds ≡ 24 * length cs + n = omega arith in
+    let n : ℕ = cellSize * length ds - cellSize * length cs in
+    let e : cellSize * length ds ≡ cellSize * length cs + n = omega arith in
     ap (λ (s : List ℕ). joined cellBytes ds ++ s)
     (ap (λ (m : ℕ). drop m (tableWith t cs)) e
-    ∙ sym (drop-drop n (24 * length cs) (tableWith t cs))
-    ∙ ap (drop n) (drop-at (joined cellBytes cs) (drop (24 * length cs) t) (24 * length cs) (length-stored cs))
-    ∙ drop-drop n (24 * length cs) t
+    ∙ sym (drop-drop n (cellSize * length cs) (tableWith t cs))
+    ∙ ap (drop n) (drop-at (joined cellBytes cs) (drop (cellSize * length cs) t) (cellSize * length cs) (length-stored cs))
+    ∙ drop-drop n (cellSize * length cs) t
     ∙ ap (λ (m : ℕ). drop m t) (sym e))

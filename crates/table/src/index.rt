@@ -5,13 +5,13 @@ ghost use Prim.Native.Nat.{_+_, _*_, _≤_, _<_};
 ghost use mathlib.Core.List.{[]};
 ghost use lib.ListN.{length, drop, getD, set};
 ghost use Rattle.model.specs.Objects.{depots, isCell};
-ghost use Rattle.model.specs.Table.{cellsOf};
+ghost use Rattle.model.specs.Table.{cellsOf, cellSize};
 ghost use Rattle.table.specs.Places.{placeOf, Index};
 use codec::names::ObjectId;
 
 // The index with the row at place i, the first of those from i on.
 fn with_row(index: &mut [u64], table: &[u8], count: usize, i: usize)
-    requires { ⌜ (24 * count ≤ length (now table)) × (i < count) × Index (drop (i + 1) (cellsOf (now table) count)) (i + 1) (now index) ⌝ }
+    requires { ⌜ (cellSize * count ≤ length (now table)) × (i < count) × Index (drop (i + 1) (cellsOf (now table) count)) (i + 1) (now index) ⌝ }
     ensures { λ _. ⌜ Index (drop i (cellsOf (now (table .entry)) count)) i (now (index .exit)) ⌝ }
 {
     let r = crate::rows::row_at(table, i);
@@ -24,7 +24,7 @@ fn with_row(index: &mut [u64], table: &[u8], count: usize, i: usize)
 
 // The index of the counted rows, from an index of none.
 pub fn build(index: &mut [u64], table: &[u8], count: usize)
-    requires { ⌜ (24 * count ≤ length (now table)) × Index [] count (now index) ⌝ }
+    requires { ⌜ (cellSize * count ≤ length (now table)) × Index [] count (now index) ⌝ }
     ensures { λ _. ⌜ Index (cellsOf (now (table .entry)) count) 0 (now (index .exit)) ⌝ }
 {
     let mut i = count;

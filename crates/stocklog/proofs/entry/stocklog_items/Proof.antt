@@ -3,6 +3,7 @@
 use mathlib.Core.Path.{ap, sym, _∙_}
 use Prim.Native.Nat.{_<_}
 use native.Mathlib.Omega.{arith}
+use Rattle.model.specs.Slot.{mostSlots}
 use Rattle.entries.specs.Answers.{infoOf, foundIn}
 use Rattle.stocklog.specs.Replies.{itemsReply}
 use Rattle.stocklog.specs.Items.{entry-placed, items-said}
@@ -17,7 +18,7 @@ returns c =
     items-said (a .log .now) (a .tail) (a .offset)
     (c .put .ensures ∙ c .before .refusal .ensures ∙ sym (ap (λ x. itemsReply (a .offset) (foundIn x)) (k .f .given .1)) ∙ ap (itemsReply (a .offset)) (k .before .before .entry .ensures .0))
 
-placed : (c : tie.After-known-told2) → c .before .before .before .before .before .args .offset < 131072
+placed : (c : tie.After-known-told2) → c .before .before .before .before .before .args .offset < mostSlots
 placed c =
     let k = c .before in
     let a = k .before .before .before .before .args in
