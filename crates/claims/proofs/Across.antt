@@ -25,13 +25,13 @@ use Rattle.model.specs.Histories.{Lent, inLog, isRefused, Carried, playOn, host
 use Rattle.model.specs.Conditions.{Stale}
 use Rattle.model.specs.Claims.{Alone, tableHolds, AbortsAlone, ReplicaAborts}
 use Rattle.laws.proofs.Items.{fitsCell}
-use Rattle.laws.proofs.Tables.{length-cells, cells-back, table-back, cells-fit}
+use Rattle.laws.proofs.Tables.{length-cells, cells-back, table-back, cells-fit, all-store}
 use Rattle.laws.proofs.Refusals.{below-good}
 use Rattle.laws.proofs.Appends.{good-kept}
 use Rattle.laws.proofs.Slots.{Kept, writes-ok}
 use Rattle.claims.proofs.Conditions.{words-concerns, words-frame}
 use Rattle.claims.proofs.Counts.{other-object}
-use Rattle.claims.proofs.Cells.{lookup-store, all-store, write-fitting}
+use Rattle.claims.proofs.Cells.{lookup-store, write-fitting}
 use Rattle.claims.proofs.Aborts.{stale-refuses, refuses-stale}
 use Rattle.claims.proofs.Audits.{tail-small}
 use Rattle.claims.proofs.Leaves.{plays-so}

@@ -9,16 +9,16 @@ use native.Mathlib.Numerals.{add-one}
 use borrow.Author.Tests.{lt-ltb}
 use lib.Dec.{eqb}
 use lib.ListN.{length}
+use Rattle.laws.proofs.Tables.{all-store}
 use Rattle.lists.specs.Tests.{and-l, and-r, ands, both, clash}
 use Rattle.lists.specs.Sets.{all, mem, ascending, all-weaken}
 use Rattle.model.specs.Objects.{Shape, isCell, okShape}
 use Rattle.model.specs.Entries.{Write, Held, contentOf, isNone}
-use Rattle.model.specs.Slot.{valueField}
 use Rattle.model.specs.Rules.{fits, okWrite}
 use Rattle.model.specs.Table.{Cell, Holds, isOf, heldBy, lookup, presentField, cellOf, store, apply}
 use Rattle.model.specs.Run.{written, madeAll}
 use Rattle.model.specs.Histories.{cellsWritten}
-use Rattle.laws.proofs.Items.{fitsCell, fitsWrite, write-fits}
+use Rattle.laws.proofs.Items.{fitsCell, fitsWrite, write-fits, content-fits}
 use Rattle.claims.proofs.Counts.{same, same-object, same-key, same-eq, other-object, put, byId, written-same, written-none, written-new}
 
 -- ---- choices
@@ -92,19 +92,6 @@ distinct-store (c ∷ cs) o k h d = go (isOf o k c) refl (distinct-store cs o k 
 unfoldable pub owned : Shape → List ℕ → Cell → Bool
 owned sh set c = mem c.object set && isCell sh c.object c.key && fitsCell c
 
-pub all-store : (f : Cell → Bool) (cs : List Cell) (o k : ℕ) (h : Held) → all f cs ≡ true → f (cellOf o k h) ≡ true → all f (store cs o k h) ≡ true
-unfolding store
-all-store f [] o k h a e = both e refl
-all-store f (c ∷ cs) o k h a e = go (isOf o k c) (all-store f cs o k h (and-r (f c) (all f cs) a) e)
-  where
-    go : (b : Bool) → all f (store cs o k h) ≡ true → all f (cond b (cellOf o k h ∷ cs) (c ∷ store cs o k h)) ≡ true
-    go true ih = both e (and-r (f c) (all f cs) a)
-    go false ih = both (and-l (f c) (all f cs) a) ih
-
-value-fits : (b : Bool) (x : ℕ) → fits 4 x ≡ true → fits 4 (valueField (cond b (some x) none)) ≡ true
-value-fits true x e = e
-value-fits false x e = refl
-
 pub present-fits : (x : Option ℕ) → fits 4 (presentField x) ≡ true
 present-fits none = refl
 present-fits (some x) = refl
@@ -151,7 +138,7 @@ module _ (sh : Shape) (shape : okShape sh ≡ true) (set : List ℕ) where
         let b : fits 4 w.object ≡ true = search ands in
         let c : fits 4 w.key ≡ true = search ands in
         let d : fits 4 w.value ≡ true = search ands in
-        both (both (both (both b c) (value-fits (eqb w.operation 1) (w .value) d)) (present-fits (contentOf w))) (lt-ltb v (256 ^ 8) small)
+        both (both (both (both b c) (content-fits (eqb w.operation 1) (w .value) d)) (present-fits (contentOf w))) (lt-ltb v (256 ^ 8) small)
 
     -- of a cell of the set
     owned-write : (w : Write) → okWrite sh w ≡ true → mem w.object set ≡ true → owned sh set (cellOf w.object w.key (record { version = v; content = contentOf w })) ≡ true

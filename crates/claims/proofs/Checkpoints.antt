@@ -9,6 +9,7 @@ use mathlib.Core.Option.{Option, none, some, Option·some-injective}
 use native.Mathlib.Omega.{arith}
 use borrow.Author.Tests.{eqb-true, eqb-false, eq-eqb, ne-eqb, ltb-true, ltb-false}
 use lib.Dec.{eqb, ltb}
+use Rattle.laws.proofs.Same.{same-saved}
 use Rattle.lists.specs.Tests.{both}
 use Rattle.lists.specs.Sets.{ascending, first-leads, rest-ascends}
 use Rattle.model.specs.Entries.{Saved}
@@ -19,7 +20,6 @@ use Rattle.model.specs.Conditions.{savedFor}
 use Rattle.laws.proofs.Refusals.{not-none}
 use Rattle.laws.proofs.Appends.{saved-ascends}
 use Rattle.claims.proofs.Saved.{saved-for}
-use Rattle.claims.proofs.Openings.{same-saved}
 
 -- ---- lists that say the same
 

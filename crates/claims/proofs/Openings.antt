@@ -4,10 +4,10 @@ use Prim.Native.Nat.{ℕ, suc, _+_, _*_, _/_, _%_, _<_, _≤_, _^_}
 use mathlib.Core.Path.{_≡_, refl, ap, ap₂, sym, _∙_}
 use mathlib.Core.Bool.{Bool, true, false, cond, _||_}
 use mathlib.Core.List.{List, [], _∷_, map}
-use mathlib.Core.Option.{Option, none, some}
 use native.Mathlib.Omega.{arith}
 use borrow.Author.Tests.{eqb-true, eq-eqb, ltb-true, leb-true, lt-ltb}
 use lib.Dec.{eqb}
+use Rattle.laws.proofs.Same.{same-saved}
 use Rattle.lists.specs.Tests.{and-r, ands, both, or-false, clash}
 use Rattle.lists.specs.Sets.{all, mem, ascending, first-leads, rest-ascends}
 use Rattle.model.specs.Objects.{Object, Shape, ids, isObject, isCell, okShape, hostedBy, hosted, bitOf, setOf}
@@ -17,7 +17,7 @@ use Rattle.model.specs.Rules.{fits, okSaved, savedBefore, okEntry}
 use Rattle.model.specs.Table.{Cell, lookup, cellOf, savedOf}
 use Rattle.model.specs.Play.{cellsIn}
 use Rattle.model.specs.Conditions.{savedFor}
-use Rattle.model.specs.Replica.{sameContent, sameSaved, auditPlay, asPlayed}
+use Rattle.model.specs.Replica.{auditPlay, asPlayed}
 use Rattle.laws.proofs.Items.{fitsCell, cell-small}
 use Rattle.laws.proofs.Appends.{good-kept}
 use Rattle.claims.proofs.Counts.{other-key}
@@ -54,28 +54,6 @@ hosted-one sh o m = one-hosted o (sh .objects) m
 
 pub mem-one : (x o : ℕ) → mem x (o ∷ []) ≡ true → o ≡ x
 mem-one x o h = eqb-true o x (sym (or-false (eqb o x)) ∙ h)
-
--- ---- equal lists of a checkpoint's cells
-
-same-content : (x y : Option ℕ) → sameContent x y ≡ true → x ≡ y
-same-content none none h = refl
-same-content none (some y) h = clash false h refl
-same-content (some x) none h = clash false h refl
-same-content (some x) (some y) h = ap some (eqb-true x y h)
-
-pub same-saved : (cs ds : List Saved) → sameSaved cs ds ≡ true → cs ≡ ds
-same-saved [] [] h = refl
-same-saved [] (d ∷ ds) h = clash false h refl
-same-saved (c ∷ cs) [] h = clash false h refl
-same-saved (c ∷ cs) (d ∷ ds) h =
-    let a : eqb c.key d.key ≡ true = search ands in
-    let b : eqb c.held.version d.held.version ≡ true = search ands in
-    let e : sameContent c.held.content d.held.content ≡ true = search ands in
-    let r : cs ≡ ds = same-saved cs ds (search ands) in
-    let p = eqb-true (c .key) (d .key) a in
-    let q = eqb-true (c .held .version) (d .held .version) b in
-    let s = same-content (c .held .content) (d .held .content) e in
-    λ i. record { key = p i; held = record { version = q i; content = s i } } ∷ r i
 
 -- ---- saved cells as cells of a table
 

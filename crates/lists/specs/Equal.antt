@@ -16,6 +16,11 @@ eqList [] (y ∷ ys) = false
 eqList (x ∷ xs) [] = false
 eqList (x ∷ xs) (y ∷ ys) = cond (eqb x y) (eqList xs ys) false
 
+pub eqList-refl : (l : List ℕ) → eqList l l ≡ true
+unfolding eqList
+eqList-refl [] = refl
+eqList-refl (x ∷ xs) = rw (eq-eqb x x refl, eqList-refl xs)
+
 pub eqList-size : (a b : List ℕ) → (length a ≡ length b → ⊥) → eqList a b ≡ false
 unfolding eqList
 eqList-size [] [] h = absurd (h refl)

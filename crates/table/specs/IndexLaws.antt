@@ -3,7 +3,7 @@
 use mathlib.Core.Path.{_≡_, refl, ap, ap₂, sym, subst, _∙_}
 use mathlib.Core.Bool.{Bool, true, false, cond, _&&_}
 use mathlib.Core.List.{List, [], _∷_}
-use Prim.Native.Nat.{ℕ, zero, suc, _+_, _*_, _≤_, _<_}
+use Prim.Native.Nat.{ℕ, zero, suc, _+_, _*_, _<_}
 use native.Mathlib.Nat.{zero-add}
 use native.Mathlib.Numerals.{add-one}
 use native.Mathlib.Omega.{arith}
@@ -29,9 +29,9 @@ moved-further : (n r : ℕ) → movedBy n (further r) ≡ movedBy (n + 1) r
 moved-further n zero = refl
 moved-further n (suc r) = rw (eqb·suc-zero (suc r), eqb·suc-zero r) (omega arith)
 
-moved-none : (r : ℕ) → 1 ≤ r → movedBy 0 r ≡ r
-moved-none zero l = absurd (omega arith)
-moved-none (suc r) l = rw (eqb·suc-zero r) (omega arith)
+pub moved-none : (r : ℕ) → movedBy 0 r ≡ r
+moved-none zero = refl
+moved-none (suc r) = rw (eqb·suc-zero r) (omega arith)
 
 module _ {c : Cell} {cs : List Cell} {n : ℕ} {index : List ℕ} (x : Index cs (n + 1) index) where
   -- a row in front that is of no cell

@@ -9,8 +9,7 @@ use native.Mathlib.Omega.{arith}
 use lib.Dec.{eqb, ltb, eqb·suc-zero}
 use lib.ListN.{length, getD, set, length-append, length-set}
 use borrow.Author.Tests.{eq-eqb, eqb-true, lt-ltb, le-ltb}
-use Rattle.lists.specs.Tests.{and-l, and-r, both}
-use Rattle.lists.specs.Sets.{all}
+use Rattle.lists.specs.Tests.{and-l, and-r}
 use Rattle.lists.specs.Rows.{values}
 use Rattle.lists.specs.First.{first, firstFrom}
 use Rattle.model.specs.Entries.{Held}
@@ -186,16 +185,6 @@ store-grows cs o k h = rw (length-store cs o k h) (go (eqb (rowIn cs o k) 0))
     go : (b : Bool) → length cs ≤ cond b (length cs + 1) (length cs)
     go true = omega arith
     go false = omega arith
-
--- a test that each cell passes
-pub all-store : (f : Cell → Bool) (cs : List Cell) (o k : ℕ) (h : Held) → all f cs ≡ true → f (cellOf o k h) ≡ true → all f (store cs o k h) ≡ true
-unfolding store
-all-store f [] o k h a e = both e refl
-all-store f (c ∷ cs) o k h a e = go (isOf o k c) (all-store f cs o k h (and-r (f c) (all f cs) a) e)
-  where
-    go : (b : Bool) → all f (store cs o k h) ≡ true → all f (cond b (cellOf o k h ∷ cs) (c ∷ store cs o k h)) ≡ true
-    go true ih = both e (and-r (f c) (all f cs) a)
-    go false ih = both (and-l (f c) (all f cs) a) ih
 
 -- ---- the row as the first index that a loop meets
 

@@ -20,10 +20,10 @@ use Rattle.model.specs.Slot.{valueField}
 use Rattle.model.specs.Rules.{fits}
 use Rattle.model.specs.Table.{Cell, cellAt, cellBytes, cellsOf, tableWith, isOf, heldBy, lookup, cellOf, store, cellSize}
 use Rattle.laws.proofs.Items.{fitsCell, length-cell}
-use Rattle.laws.proofs.Tables.{length-cells, length-stored, cells-back, table-back, cells-fit}
+use Rattle.laws.proofs.Tables.{length-cells, length-stored, cells-back, table-back, cells-fit, all-store}
 use Rattle.laws.proofs.Stored.{bytes-all}
 use Rattle.table.specs.Rows.{rowIn}
-use Rattle.table.specs.RowLaws.{row-some, store-new, store-old, row-store-new, row-store-old, length-by-row, all-store}
+use Rattle.table.specs.RowLaws.{row-some, store-new, store-old, row-store-new, row-store-old, length-by-row}
 
 -- what a counted row holds
 pub row-held : (t : List ℕ) (count row o k : ℕ) → row ≡ rowIn (cellsOf t count) o k → 1 ≤ row
