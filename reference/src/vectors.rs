@@ -34,7 +34,7 @@
 //! `checkpoint`. At the end of a case: `log`, and after a space each all bytes of the log as 4-byte words; a last part
 //! of fewer than 4 bytes is left out.
 //!
-//! # Playing
+//! # Replicas
 //!
 //! A case is 4 bytes length of the log in bytes, the log's bytes, 4 bytes length of the table in bytes, the table's
 //! bytes, the record to start with (4 bytes hosted set, 8 bytes position, 8 bytes count), 4 bytes number of requests,
@@ -46,18 +46,13 @@
 //! - 2 play: 4 bytes tail, 8 bytes stop. `play done H P C` or `play refused N at K H P C`, with the record as left.
 //! - 3 read cell: 4 bytes object, 4 bytes key. `cell X KEY never`, `cell X KEY value V VERSION`, `cell X KEY removed
 //!   VERSION` or `cell X KEY refused N at K`.
-//!
-//! At the end of a case: `table`, and after a space each all bytes of the table as 4-byte words; a last part of fewer
-//! than 4 bytes is left out.
-//!
-//! # Auditing
-//!
-//! As playing, with two kinds of request more:
-//!
 //! - 4 open at a checkpoint: 4 bytes tail, 8 bytes offset. `restore done H P C` or `restore refused N at K`; refused,
 //!   the record stays.
 //! - 5 audit, with the table as its scratch: 4 bytes tail. `audit done H P C` or `audit refused N at K H P C`, with the
 //!   record as left, which is 0 0 0 where the log is refused. The next request is made on that record.
+//!
+//! At the end of a case: `table`, and after a space each all bytes of the table as 4-byte words; a last part of fewer
+//! than 4 bytes is left out.
 //!
 //! # Forms
 //!
@@ -90,12 +85,11 @@ use crate::Answer;
 const FILLED: u32 = 77_777;
 
 /// The programs that have stored vectors.
-pub const PROGRAMS: [&str; 6] = [
-    "reading",
-    "appending",
-    "playing",
-    "auditing",
-    "forms",
+pub const PROGRAMS: [&str; 5] = [
+    "test_reading",
+    "test_appending",
+    "test_replicas",
+    "test_forms",
     "playlog",
 ];
 
@@ -109,11 +103,10 @@ pub struct Vectors {
 /// The vectors of one of `PROGRAMS`.
 pub fn vectors(program: &str) -> Option<Vectors> {
     match program {
-        "reading" => Some(of_reading()),
-        "appending" => Some(of_appending()),
-        "playing" => Some(of_playing(&playing())),
-        "auditing" => Some(of_playing(&auditing())),
-        "forms" => Some(of_forms()),
+        "test_reading" => Some(of_reading()),
+        "test_appending" => Some(of_appending()),
+        "test_replicas" => Some(of_replicas()),
+        "test_forms" => Some(of_forms()),
         "playlog" => Some(of_playlog()),
         _ => None,
     }
@@ -128,11 +121,13 @@ fn of_appending() -> Vectors {
     }
 }
 
-fn of_playing(cases: &[playing::Case]) -> Vectors {
+fn of_replicas() -> Vectors {
+    let mut cases = playing();
+    cases.extend(auditing());
     Vectors {
         cases: cases.len(),
-        input: playing::input(cases),
-        output: playing::output(cases),
+        input: playing::input(&cases),
+        output: playing::output(&cases),
     }
 }
 

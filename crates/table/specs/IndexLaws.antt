@@ -76,7 +76,7 @@ module _ {cs : List Cell} {index : List ℕ} (x : Index cs 0 index) (o k : ℕ) 
       go o′ k′ i true e =
           same-cell o k o′ k′ (λ a b. getD (set index (placeOf o k) (rowIn (store cs o k h) o k)) (placeOf a b) 0 ≡ movedBy 0 (rowIn (store cs o k h) a b)) e
           (getD-set-same index (placeOf o k) (rowIn (store cs o k h) o k) 0 (omega (arith, place-below o k inside, x .size))
-          ∙ sym (moved-none (rowIn (store cs o k h) o k) (row-stored cs o k h)))
+          ∙ sym (moved-none (rowIn (store cs o k h) o k)))
       go o′ k′ i false e =
           getD-set-other index (placeOf o k) (placeOf o′ k′) (rowIn (store cs o k h) o k) 0
           (λ s. let w = place-apart o k o′ k′ inside i (sym s) in clash (eqb o o′ && eqb k k′) (both (eq-eqb o o′ (w .0)) (eq-eqb k k′ (w .1))) e)

@@ -1,0 +1,96 @@
+// Opens replicas fresh and at checkpoints, plays and reads them, and audits, on the logs of standard input, and prints the answers,
+// and the tables that they left. The input is a list of cases: log, table, record, requests. It and the expected output come
+// from the second implementation.
+mod requests;
+
+use records::Record;
+
+// The requests from a place on, one after the other; answers the place after them.
+fn all_requests(
+    input: &[u8],
+    at: usize,
+    n: usize,
+    log: &[u8],
+    table: &mut [u8],
+    r: Record,
+) -> usize {
+    let mut a = at;
+    let mut x = r;
+    let mut k = 0;
+    while k < n {
+        let s = requests::request(input, a, log, table, x);
+        a = s.at;
+        x = s.record;
+        k += 1;
+    }
+    a
+}
+
+// The bytes of the table as numbers of 4 bytes.
+fn dump(table: &[u8]) {
+    io::write_all(1, b"table");
+    let n = table.len() / 4;
+    let mut k = 0;
+    while k < n {
+        printing::next(printing::wide(codec::bytes::be32(table, 4 * k)));
+        k += 1;
+    }
+    printing::line_end();
+}
+
+// The record at a place.
+fn record_at(input: &[u8], at: usize) -> Record {
+    let second = cases::after(input, at, 4);
+    let third = cases::after(input, second, 8);
+    Record {
+        hosted: cases::low(cases::word(input, at)),
+        position: cases::long(input, second),
+        count: cases::long(input, third),
+    }
+}
+
+// The record and the requests at a place, on a log and a table.
+fn run(input: &[u8], at: usize, log: &[u8], table: &mut [u8]) -> usize {
+    let r = record_at(input, at);
+    let second = cases::after(input, at, 20);
+    let n = cases::word(input, second) as usize;
+    let next = all_requests(input, cases::after(input, second, 4), n, log, table, r);
+    dump(table);
+    next
+}
+
+// The case at a place, on a table of its own; answers the place after it.
+fn case(input: &[u8], at: usize) -> usize {
+    let size = cases::word(input, at) as usize;
+    let second = cases::after(input, at, 4);
+    let log = cases::part(input, second, size);
+    let third = cases::after(input, second, size);
+    let length = cases::word(input, third) as usize;
+    let fourth = cases::after(input, third, 4);
+    let bytes = cases::part(input, fourth, length);
+    let fifth = cases::after(input, fourth, length);
+    let mut table = [0u8; 4096];
+    if 4096 < bytes.len() {
+        return input.len();
+    }
+    codec::bytes::copy_in(&mut table, 0, bytes);
+    let e = bytes.len();
+    run(input, fifth, log, &mut table[0..e])
+}
+
+fn cases(input: &[u8]) {
+    let mut at = 0;
+    while at < input.len() {
+        let next = case(input, at);
+        if next <= at {
+            return;
+        }
+        at = next;
+    }
+}
+
+fn main() {
+    let mut buffer = [0u8; 524288];
+    let n = io::read_full(0, &mut buffer);
+    cases(&buffer[..n]);
+}
