@@ -1,6 +1,7 @@
 // The leaves: integers in bytes, a type for each kind of number, marks, header words and hosted sets, what a cell holds, the table of objects.
 pub mod bytes;
 pub mod cells;
+pub mod layout;
 pub mod marks;
 pub mod names;
 pub mod objects;

@@ -3,11 +3,12 @@ mod cells;
 mod outcomes;
 
 use answers::Refusal;
+use codec::layout::SLOT_SIZE;
 use entries::calls::Checked;
 
 // The log is at most 256 slots, all of them used; the table has room for 2,730 cells.
 fn report(log: &[u8]) {
-    let tail = log.len() / 256;
+    let tail = log.len() / SLOT_SIZE;
     let mut scratch = [0u8; 65520];
     let l = audit::audit(log, tail, &mut scratch);
     let a = l.answer;
