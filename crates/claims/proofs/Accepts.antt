@@ -1,10 +1,10 @@
 -- An append is accepted exactly when nothing stops it: it is refused by the first test that does not pass, and each test passes
 -- exactly where its words hold.
-use Prim.Native.Nat.{ℕ, _/_, _%_, _^_, _<_, _≤_}
+use Prim.Native.Nat.{ℕ, _/_, _^_, _<_, _≤_}
 use mathlib.Core.Path.{_≡_, refl, ap}
 use mathlib.Core.Logic.{_⊎_, inl, inr, ⊎-elim}
-use mathlib.Core.Bool.{Bool, true, false, cond, not, _&&_, _||_}
-use mathlib.Core.List.{List, [], _∷_, _++_, map, List·Memᴰ, List·Memᴰ·head, List·Memᴰ·not-nil, List·Memᴰ·append-cases, Memᴰ·append-left, Memᴰ·append-right}
+use mathlib.Core.Bool.{Bool, true, false, not, _&&_, _||_}
+use mathlib.Core.List.{List, [], _∷_, _++_, List·Memᴰ, List·Memᴰ·head, List·Memᴰ·not-nil, List·Memᴰ·append-cases, Memᴰ·append-left, Memᴰ·append-right}
 use mathlib.Core.Option.{Option, none, some}
 use native.Mathlib.Omega.{arith}
 use borrow.Author.Tests.{eqb-true, eqb-false, ne-eqb, ltb-true, ltb-false, lt-ltb, le-ltb, leb-false, lt-leb, not-true, not-false}
@@ -12,7 +12,7 @@ use lib.Dec.{eqb, leb, ltb}
 use lib.ListN.{length}
 use Rattle.lists.specs.Tests.{ands, ors, both, neither, or-case, clash}
 use Rattle.lists.specs.Sets.{all, isEmpty, mem}
-use Rattle.model.specs.Objects.{Object, Shape, isObject, okShape, hostedBy, hosted}
+use Rattle.model.specs.Objects.{Shape, isObject, okShape, hosted}
 use Rattle.model.specs.Entries.{Write, Claim, Commit, commit, Log, commitAt, writesOf, closed, decided, isNone}
 use Rattle.model.specs.Slot.{slotSize, writeAt, readAt, logIn}
 use Rattle.model.specs.Rules.{fits, okWrites, narrow, okReads, okSaved, okOutcome, okNumber, lowestBad}
@@ -22,6 +22,7 @@ use Rattle.model.specs.Append.{Replica, Request, update, commits, decides, save
 use Rattle.model.specs.Histories.{Lent, inLog, isRefused, Accepted}
 use Rattle.model.specs.Conditions.{SetAside, Committed, UpdateAllowed, CommitAllowed, DecisionAllowed, CheckpointAllowed, Allowed, Unstopped}
 use Rattle.model.specs.Claims.{AcceptsExactly}
+use Rattle.laws.proofs.Directory.{hosted-listed}
 use Rattle.laws.proofs.Refusals.{AllPass, all-pass, refuse-none, refuseAt-none, not-none, good-below, below-good}
 use Rattle.laws.proofs.Appends.{has-room, passed, wrote}
 use Rattle.laws.proofs.ByKind.{commit-entry}
@@ -180,17 +181,6 @@ module _ (sh : Shape) (log : Log) where
       undecided : not (isNone (decided log o (log .tail))) ≡ false
       undecided = ap not (words-undecided log o (log .tail) (a .undecided))
 
-  -- a hosted object is in the directory
-  hosted-object : (o : ℕ) (bs : List Object) (set : ℕ) → mem o (hostedBy bs set) ≡ true → mem o (map (λ (b : Object). b .id) bs) ≡ true
-  hosted-object o [] set h = h
-  hosted-object o (b ∷ bs) set h = go (eqb (set % 2) 1) (eqb b.id o) refl h (λ m. hosted-object o bs (set / 2) m)
-    where
-      go : (t e : Bool) → eqb b.id o ≡ e → mem o (cond t (b .id ∷ hostedBy bs (set / 2)) (hostedBy bs (set / 2))) ≡ true
-          → (mem o (hostedBy bs (set / 2)) ≡ true → mem o (map (λ (b : Object). b .id) bs) ≡ true) → (e || mem o (map (λ (b : Object). b .id) bs)) ≡ true
-      go t true q i ih = refl
-      go true false q i ih = ih (rw q at i)
-      go false false q i ih = ih i
-
   checkpoint-words : (r : Replica) (table : List ℕ) (o : ℕ) → AllPass (ownTests sh log (saves r table o)) → CheckpointAllowed sh log r table o
   unfolding ownTests
   checkpoint-words r table o t =
@@ -223,7 +213,7 @@ module _ (sh : Shape) (log : Log) where
           (le-ltb (log .tail) (r .position) (omega (arith, a .there)))
 
       given : (isObject sh o && mem o (hosted sh (r .hosting)) && all (okSaved sh (log .tail) o) (savedGiven r table o)) ≡ true
-      given = both (both (hosted-object o (sh .objects) (r .hosting) (a .hosts)) (a .hosts)) (words-cells sh (log .tail) o cells (a .each))
+      given = both (both (hosted-listed o (sh .objects) (r .hosting) (a .hosts)) (a .hosts)) (words-cells sh (log .tail) o cells (a .each))
 
       behind : ltb (r .position) (log .tail) ≡ false
       behind = le-ltb (r .position) (log .tail) (omega (arith, a .there))

@@ -17,7 +17,7 @@ use Rattle.model.specs.Objects.{depots, isCell}
 use Rattle.model.specs.Entries.{Held}
 use Rattle.model.specs.Table.{Cell, isOf, cellAt, cellsOf, store, cellSize}
 use Rattle.table.specs.Rows.{further, rowIn}
-use Rattle.table.specs.RowLaws.{is-of, same-cell, row-stored, row-store-other, row-kept}
+use Rattle.table.specs.RowLaws.{is-of, same-cell, row-store-other, row-kept}
 use Rattle.table.specs.Places.{placeOf, movedBy, Index, place-below, place-apart}
 
 -- an index of none
