@@ -1,8 +1,10 @@
 -- The number and the offset told for each case of the code's refusals (13.3).
 use mathlib.Core.Option.{Option, none, some}
 use Prim.Native.Nat.{ℕ}
-use Rattle.model.specs.Answers.{Refusal}
+use Rattle.model.specs.Answers.{Refusal, Answer, done, refused}
 use Rattle.answers.specs.declared.Refusal as code
+use Rattle.answers.specs.declared.Checked as checks
+use Rattle.answers.specs.declared.Checked.the-variants as checked
 use Rattle.answers.specs.declared.Told.{Told}
 use Rattle.answers.specs.declared.Told.the-variants.{At, Nothing}
 use Rattle.answers.specs.declared.Refusal.the-variants.{Frame, BadEntry, Request, Closed, Wide, Empty, NoCommit, Decided, Full, BadReplica, FalseRecord, Waiting, NoRoom, NoRoomAt, Behind}
@@ -23,6 +25,10 @@ refusalIn Waiting = record { number = 12; offset = none }
 refusalIn NoRoom = record { number = 13; offset = none }
 refusalIn (NoRoomAt o) = record { number = 13; offset = some (o .0) }
 refusalIn Behind = record { number = 14; offset = none }
+
+abbrev pub checkedIn : checks.Checked → Answer (Unit {0})
+checkedIn checked.Done = done tt
+checkedIn (checked.Refused r) = refused (refusalIn r)
 
 abbrev pub toldIn : Told → Option ℕ
 toldIn (At o) = some (o .0)

@@ -21,6 +21,12 @@ pub enum Refusal {
     Behind,
 }
 
+// Done, or refused.
+pub enum Checked {
+    Done,
+    Refused(Refusal),
+}
+
 // The number of a refusal in the table.
 pub fn number_of(r: Refusal) -> u32
     ensures { λ n. ⌜ n ≡ refusalIn r .number ⌝ }

@@ -20,7 +20,8 @@ use Rattle.claims.proofs.Depots.{demand2-depots}
 use Rattle.entries.specs.declared.calls.Info.{Info}
 use Rattle.entries.specs.declared.calls.Found as finds
 use Rattle.entries.specs.declared.calls.Found.the-variants as found
-use Rattle.entries.specs.Answers.{checkedIn, foundIn, infoOf}
+use Rattle.entries.specs.Answers.{foundIn, infoOf}
+use Rattle.answers.specs.Refusals.{checkedIn}
 use Rattle.append.specs.declared.write.Appended.the-variants as appended
 use Rattle.append.specs.Answers.{tailIn}
 use Rattle.calls.specs.Values.{AppendCall, seen, Grows, leftBy, lastLog, EntryCall, ItemsCall, part}

@@ -9,7 +9,7 @@ use Rattle.model.specs.Histories.{Lent, inLog, wholeLog, ranTo}
 use Rattle.model.specs.Conditions.{Framed}
 use Rattle.model.specs.Claims.{Audits}
 use Rattle.claims.proofs.Depots.{audits-depots, never-waits-depots}
-use Rattle.entries.specs.Answers.{checkedIn}
+use Rattle.answers.specs.Refusals.{checkedIn}
 use Rattle.calls.specs.Values.{lastLog, ran, scratch}
 use Rattle.calls.specs.Claims.{CallsAudit, CallsNeverWait}
 use Rattle.calls.proofs.Promises.{audit-promise}

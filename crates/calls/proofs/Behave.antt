@@ -19,7 +19,7 @@ use Rattle.model.specs.Histories.{Lent, inLog, isRefused, Accepted, grown, Hist
 use Rattle.model.specs.Conditions.{Stale, Concerns, Fit, Ended}
 use Rattle.model.specs.Claims.{Waiting, SameOutcome, Shows}
 use Rattle.claims.proofs.Depots.{demand2-depots, demand3-depots}
-use Rattle.entries.specs.Answers.{checkedIn}
+use Rattle.answers.specs.Refusals.{checkedIn}
 use Rattle.append.specs.Answers.{tailIn}
 use Rattle.replica.specs.Answers.{openedIn, readIn}
 use Rattle.calls.specs.Values.{AppendCall, seen, Appends, lastLog, logAfter, ran, AuditCall, scratch, auditLeft, Kept, carry, openLeft, Opens, fresh, atCheckpoint, PlayCall, stopOf, kept, playLeft, Plays, none, more, ReadCall}

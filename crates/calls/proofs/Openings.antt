@@ -13,7 +13,7 @@ use Rattle.model.specs.Histories.{inLog, isRefused}
 use Rattle.model.specs.Claims.{OpenedAt}
 use Rattle.claims.proofs.Depots.{opens-at-depots}
 use Rattle.claims.proofs.Opened.{opens-fresh}
-use Rattle.entries.specs.Answers.{checkedIn}
+use Rattle.answers.specs.Refusals.{checkedIn}
 use Rattle.records.specs.declared.Record.{Record}
 use Rattle.records.specs.Record.{replicaIn}
 use Rattle.replica.specs.declared.opening.Opened as opens

@@ -9,7 +9,8 @@ use Rattle.model.specs.Append as model
 use Rattle.model.specs.Reading.{check, entryCall, itemList}
 use Rattle.model.specs.Replica as model-replica
 use Rattle.model.specs.Histories.{Lent, inLog, playOn}
-use Rattle.entries.specs.Answers.{checkedIn, foundIn}
+use Rattle.entries.specs.Answers.{foundIn}
+use Rattle.answers.specs.Refusals.{checkedIn}
 use Rattle.append.specs.Answers.{tailIn}
 use Rattle.records.specs.declared.Record.{Record}
 use Rattle.records.specs.Record.{replicaIn}

@@ -20,7 +20,7 @@ use Rattle.model.specs.Run.{madeAll}
 use Rattle.model.specs.Histories.{Lent, inLog, isRefused, cellsWritten}
 use Rattle.model.specs.Conditions.{Framed, Stale, Concerns, Blocked, Fit, Playable, Ended, Unstopped}
 use Rattle.model.specs.Claims.{Bytes, Waiting, doneWith, kindGiven, NumberGiven, ObjectsGiven, ItemsGiven, headerObjectsIn, Alone, AbortsAlone, Audits, OpenedAt}
-use Rattle.entries.specs.declared.calls.Checked.the-variants as checked
+use Rattle.answers.specs.declared.Checked.the-variants as checked
 use Rattle.entries.specs.declared.calls.Info.{Info}
 use Rattle.entries.specs.declared.calls.Found.the-variants as found
 use Rattle.entries.specs.Answers.{infoOf}

@@ -2,9 +2,9 @@
 mod cells;
 mod outcomes;
 
+use answers::Checked;
 use answers::Refusal;
 use codec::layout::SLOT_SIZE;
-use entries::calls::Checked;
 
 // The log is at most 256 slots, all of them used; the table has room for 2,730 cells.
 fn report(log: &[u8]) {

@@ -3,11 +3,12 @@ ghost use mathlib.Core.Path.{_≡_};
 ghost use Rattle.model.specs.Objects.{depots};
 ghost use Rattle.model.specs.Slot.{logOf};
 ghost use Rattle.model.specs.Reading.{check, owed};
-ghost use Rattle.entries.specs.Answers.{checkedIn, owedIn};
+ghost use Rattle.entries.specs.Answers.{owedIn};
+ghost use Rattle.answers.specs.Refusals.{checkedIn};
 ghost use Rattle.stocklog.specs.Replies.{checkReply, owedReply};
 ghost use Rattle.stocklog.specs.Numbers.{numbersIn};
 use crate::numbers::Numbers;
-use entries::calls::Checked;
+use answers::Checked;
 use entries::owing::Owed;
 
 fn of_check(c: Checked) -> Numbers

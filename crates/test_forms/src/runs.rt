@@ -1,5 +1,5 @@
 // A record moved on in place by instalments.
-use entries::calls::Checked;
+use answers::Checked;
 use records::Record;
 
 // One instalment: its answer and the record that it left.

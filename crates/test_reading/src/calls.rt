@@ -1,7 +1,7 @@
 // Check, owed, entry and item list.
+use answers::Checked;
 use codec::marks::Mark;
 use codec::names::Offset;
-use entries::calls::Checked;
 use entries::calls::Found;
 use entries::calls::Info;
 use entries::owing::Owed;

@@ -1,8 +1,8 @@
 // One call on a replica or an audit, and its answer printed.
+use answers::Checked;
 use codec::cells::Content;
 use codec::cells::Written;
 use codec::names::ObjectId;
-use entries::calls::Checked;
 use records::Record;
 use replica::cells::Reading;
 use replica::opening::Opened;

@@ -1,6 +1,6 @@
 -- Each case of the answer is said by its own numbers.
 use mathlib.Core.Path.{ap, sym, _∙_}
-use Rattle.entries.specs.Answers.{checkedIn}
+use Rattle.answers.specs.Refusals.{checkedIn}
 use Rattle.stocklog.specs.Replies.{checkReply}
 use borrow.Author.Needs.{needs}
 use Rattle.stocklog.proofs.reading.of_check.Statement.{statement}

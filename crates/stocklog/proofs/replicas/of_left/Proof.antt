@@ -1,6 +1,6 @@
 -- Each case of the answer is said by its own numbers, with the record.
 use mathlib.Core.Path.{ap, sym, _∙_}
-use Rattle.entries.specs.Answers.{checkedIn}
+use Rattle.answers.specs.Refusals.{checkedIn}
 use Rattle.records.specs.Record.{replicaIn}
 use Rattle.stocklog.specs.Replies.{standReply}
 use borrow.Author.Needs.{needs}
