@@ -25,8 +25,8 @@ use Rattle.answers.specs.Refusals.{checkedIn}
 use Rattle.append.specs.declared.write.Appended.the-variants as appended
 use Rattle.append.specs.Answers.{tailIn}
 use Rattle.calls.specs.Values.{AppendCall, seen, Grows, leftBy, lastLog, EntryCall, ItemsCall, part}
-use Rattle.calls.specs.Claims.{lentAt, CallsAccept, CallsWrite, CallsKeepGood, CallsReadBack, CallsSameBytes}
-use Rattle.calls.proofs.Promises.{append-promise, check-promise, entry-promise, items-promise}
+use Rattle.calls.specs.Claims.{lentAt, CallsAccept, CallsWrite, CallsKeepGood, CallsReadBack, CallsItemsPlace, CallsSameBytes}
+use Rattle.calls.proofs.Promises.{append-promise, check-promise, entry-promise, items-promise, items-place}
 use Rattle.calls.proofs.Histories.{lent, requests, left-after, left-grown, history, whole-left}
 
 -- ---- accepted
@@ -97,6 +97,9 @@ calls-read-back c t d later g e i =
         items = subst (ItemsGiven q) (sym (items-promise (leftBy (seen c .left) t later) (l .tail) i)) (back .items);
       },
     )
+
+pub calls-items-place : CallsItemsPlace
+calls-items-place log o c = items-place log o c
 
 -- ---- the same bytes
 

@@ -11,7 +11,7 @@ use Rattle.model.specs.Append.{Replica}
 use Rattle.model.specs.Replica.{Left}
 use Rattle.model.specs.Histories.{inLog, isRefused}
 use Rattle.model.specs.Claims.{OpenedAt}
-use Rattle.claims.proofs.Depots.{opens-at-depots}
+use Rattle.claims.proofs.Depots.{opens-at-depots, opens-wherever-depots}
 use Rattle.claims.proofs.Opened.{opens-fresh}
 use Rattle.answers.specs.Refusals.{checkedIn}
 use Rattle.records.specs.declared.Record.{Record}
@@ -41,4 +41,6 @@ calls-open = record {
       let same = open-promise log c in
       subst (OpenedAt depots (inLog log) o (now (c .call .given .1 .1 .1 .0))) (sym same)
       (opens-at-depots log o (now (c .call .given .1 .1 .1 .0)) (ap (λ (x : Left). x .answer) (sym same) ∙ ap checkedIn e));
+  wherever = λ log c x cs framed good below here room.
+      ap (λ (y : Left). y .answer) (open-promise log c) ∙ opens-wherever-depots log (c .call .given .1 .1 .0) (now (c .call .given .1 .1 .1 .0)) x cs framed good below here room;
 }

@@ -6,10 +6,10 @@ use mathlib.Core.List.{List}
 use denote.Ref.{now}
 use Rattle.model.specs.Objects.{depots}
 use Rattle.model.specs.Append as model
-use Rattle.model.specs.Reading.{check, entryCall, itemList}
+use Rattle.model.specs.Reading.{check, entryCall, itemList, itemsFrom}
 use Rattle.model.specs.Replica as model-replica
 use Rattle.model.specs.Histories.{Lent, inLog, playOn}
-use Rattle.entries.specs.Answers.{foundIn}
+use Rattle.entries.specs.Answers.{foundIn, further}
 use Rattle.answers.specs.Refusals.{checkedIn}
 use Rattle.append.specs.Answers.{tailIn}
 use Rattle.records.specs.declared.Record.{Record}
@@ -45,6 +45,12 @@ module _ (log : Lent) where
       c .call .learnt .0
       ∙ ap (λ (l : Lent). itemList depots (inLog l) (c .call .given .1 .1 .0 .0)) (lent _ _ (c .bytes) (c .tail))
       ∙ ap (itemList depots (inLog log)) (c .at)
+
+  pub items-place : (o : ℕ) (c : ItemsCall log o) → c .call .answer .ptr ≡ further (c .call .given .0 .ptr) (itemsFrom depots (inLog log) o)
+  items-place o c =
+      c .call .learnt .1
+      ∙ ap (λ (l : Lent). further (c .call .given .0 .ptr) (itemsFrom depots (inLog l) (c .call .given .1 .1 .0 .0))) (lent _ _ (c .bytes) (c .tail))
+      ∙ ap (λ (n : ℕ). further (c .call .given .0 .ptr) (itemsFrom depots (inLog log) n)) (c .at)
 
   pub audit-promise : (c : AuditCall log) → auditLeft c ≡ model-replica.audit depots (inLog log) (scratch c)
   audit-promise c = c .call .learnt ∙ ap (λ (l : Lent). model-replica.audit depots (inLog l) (scratch c)) (lent _ _ (c .bytes) (c .tail))

@@ -10,20 +10,21 @@ use lib.Dec.{ltb}
 use lib.ListN.{length, take, drop}
 use Rattle.lists.specs.Sets.{mem, ascending}
 use Rattle.model.specs.Objects.{theObjects, depots, isCell, hosted}
-use Rattle.model.specs.Entries.{Read, Held, Claim, commit as commits-at}
+use Rattle.model.specs.Entries.{Read, Held, Saved, Claim, commit as commits-at, checkpoint as checkpoint-at}
 use Rattle.model.specs.Slot.{slotSize}
 use Rattle.model.specs.Table.{capacity, versionIn}
 use Rattle.model.specs.Answers.{done}
+use Rattle.model.specs.Reading.{itemsFrom}
 use Rattle.model.specs.Append.{commits, claimGiven}
 use Rattle.model.specs.Replica.{plainly}
 use Rattle.model.specs.Run.{madeAll}
 use Rattle.model.specs.Histories.{Lent, inLog, isRefused, cellsWritten}
-use Rattle.model.specs.Conditions.{Framed, Stale, Concerns, Blocked, Fit, Playable, Ended, Unstopped}
+use Rattle.model.specs.Conditions.{Framed, AllGood, Stale, Concerns, Blocked, Fit, Playable, Ended, Unstopped}
 use Rattle.model.specs.Claims.{Bytes, Waiting, doneWith, kindGiven, NumberGiven, ObjectsGiven, ItemsGiven, headerObjectsIn, Alone, AbortsAlone, Audits, OpenedAt}
 use Rattle.answers.specs.declared.Checked.the-variants as checked
 use Rattle.entries.specs.declared.calls.Info.{Info}
 use Rattle.entries.specs.declared.calls.Found.the-variants as found
-use Rattle.entries.specs.Answers.{infoOf}
+use Rattle.entries.specs.Answers.{infoOf, further}
 use Rattle.answers.specs.declared.Refusal.the-variants as refusal
 use Rattle.codec.specs.declared.names.Offset.{Offset}
 use Rattle.append.specs.declared.write.Appended.the-variants as appended
@@ -98,6 +99,10 @@ CallsReadBack = (c : AppendCall) (t : ℕ) → seen c .answer ≡ appended.Tail 
     → (e : EntryCall (leftBy (seen c .left) t later) (seen c .tail)) (i : ItemsCall (leftBy (seen c .left) t later) (seen c .tail))
     → (answer : Info) × (e .call .answer ≡ found.Entry answer) × Returns c answer (part i)
 
+-- the list of items is handed out where it stands in the lent log
+abbrev pub CallsItemsPlace : Type 0
+CallsItemsPlace = (log : Lent) (o : ℕ) (c : ItemsCall log o) → c .call .answer .ptr ≡ further (c .call .given .0 .ptr) (itemsFrom depots (inLog log) o)
+
 -- entries that read alike are the same bytes (17.4)
 abbrev pub CallsSameBytes : Type 0
 CallsSameBytes = (c d : AppendCall) (t u : ℕ) → lentAt c ≡ lentAt d → seen c .answer ≡ appended.Tail t → seen d .answer ≡ appended.Tail u
@@ -126,6 +131,9 @@ pub record CallsOpen : Type 0 where
       → (c .answer) ≡ opened.Replica (record { hosted = c .given .0; position = 0; count = 0 })
   pub atCheckpoint : (log : Lent) (c : OpenCall log) → c .call .answer .answer ≡ checked.Done
       → OpenedAt depots (inLog log) (c .call .given .1 .1 .0) (now (c .call .given .1 .1 .1 .0)) (openLeft c)
+  pub wherever : (log : Lent) (c : OpenCall log) (x : ℕ) (cs : List Saved) → Framed log → AllGood depots (inLog log)
+      → c .call .given .1 .1 .0 < log .tail → inLog log .entry (c .call .given .1 .1 .0) ≡ checkpoint-at x cs
+      → length cs ≤ capacity (now (c .call .given .1 .1 .1 .0)) → openLeft c .answer ≡ done tt
 
 -- ---- demand 3, and the outcomes of demand 2
 
