@@ -2,6 +2,7 @@
 ghost use mathlib.Core.Path.{_≡_};
 ghost use Prim.Native.Nat.{_+_, _-_, _≤_, _<_};
 ghost use lib.ListN.{length, getD, replicate};
+ghost use Rattle.lists.specs.Equal.{eqList};
 ghost use Rattle.lists.specs.Bytes.{beAt, bytesOf};
 ghost use Rattle.lists.specs.Splice.{splice};
 
@@ -110,4 +111,21 @@ pub fn clear(d: &mut [u8], i: usize)
         d[i + k] = 0;
         k += 1;
     }
+}
+
+// Two slices hold the same bytes. All are compared, with no way out of the loop, so that it runs on many bytes at a time.
+pub fn same(a: &[u8], b: &[u8]) -> bool
+    ensures { λ r. ⌜ r ≡ eqList (now (a .entry)) (now (b .entry)) ⌝ }
+{
+    if a.len() != b.len() {
+        return false;
+    }
+    let mut ok = true;
+    let mut i = 0;
+    while i < a.len() {
+        let e = a[i] == b[i];
+        ok = ok & e;
+        i += 1;
+    }
+    ok
 }
