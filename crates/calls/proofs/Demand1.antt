@@ -27,6 +27,7 @@ module _ (log : Lent) (k : Kept) (p : PlayOn log k) where
     unchanged = λ h. let u = leaves .unchanged h in λ j. record { replica = u .0 j; table = u .1 j };
     stopped = λ x q e. play-promise log k q ∙ ap (playOn depots log (carry k)) e ∙ leaves .stopped x;
     waits = leaves .waits;
+    lacks = leaves .lacks;
   }
 
 pub calls-demand1 : CallsDemand1

@@ -10,7 +10,7 @@ use lib.Dec.{ltb}
 use lib.ListN.{length, take, drop}
 use Rattle.lists.specs.Sets.{mem, ascending}
 use Rattle.model.specs.Objects.{theObjects, depots, isCell, hosted}
-use Rattle.model.specs.Entries.{Read, Held, Saved, Claim, commit as commits-at, checkpoint as checkpoint-at}
+use Rattle.model.specs.Entries.{Write, Read, Held, Saved, Claim, commit as commits-at, checkpoint as checkpoint-at}
 use Rattle.model.specs.Slot.{slotSize}
 use Rattle.model.specs.Table.{capacity, versionIn}
 use Rattle.model.specs.Answers.{done}
@@ -19,7 +19,7 @@ use Rattle.model.specs.Append.{commits, claimGiven}
 use Rattle.model.specs.Replica.{plainly}
 use Rattle.model.specs.Run.{madeAll}
 use Rattle.model.specs.Histories.{Lent, inLog, isRefused, cellsWritten}
-use Rattle.model.specs.Conditions.{Framed, AllGood, Stale, Concerns, Blocked, Fit, Playable, Ended, Unstopped}
+use Rattle.model.specs.Conditions.{Framed, AllGood, Stale, Concerns, Blocked, Fit, Playable, Ended, Makes, Unstopped}
 use Rattle.model.specs.Claims.{Bytes, Waiting, doneWith, kindGiven, NumberGiven, ObjectsGiven, ItemsGiven, headerObjectsIn, Alone, AbortsAlone, Audits, OpenedAt}
 use Rattle.answers.specs.declared.Checked.the-variants as checked
 use Rattle.entries.specs.declared.calls.Info.{Info}
@@ -52,6 +52,8 @@ pub record PlayLeaves (log : Lent) (k : Kept) (p : PlayOn log k) : Type 0 where
   pub stopped : Playable depots log (carry k) (stopOf p) → (q : PlayOn log k) → stopOf q ≡ kept p .replica .position
       → playLeft q ≡ doneWith (replicaIn (kept p .replica)) (kept p .table)
   pub waits : Waiting (Playable depots log (carry k) (stopOf p)) (inLog log) (hosts k) (k .replica .position) (stopOf p) (playLeft p)
+  -- 13 only where the entry at its position makes more writes than the table has rows free
+  pub lacks : playLeft p .answer ≡ plainly 13 → (ws : List Write) × Makes (inLog log) (kept p .replica .position) ws × (capacity (k .table) < kept p .replica .count + length ws)
 
 pub record CallsDemand1 : Type 0 where
   pub refusedAppend : (c : AppendCall) → isRefused (tailIn (seen c .answer)) ≡ true → seen c .left ≡ seen c .bytes

@@ -31,7 +31,7 @@ use Rattle.laws.proofs.Appends.{good-kept}
 use Rattle.laws.proofs.Slots.{Kept, writes-ok}
 use Rattle.claims.proofs.Conditions.{words-concerns, words-frame}
 use Rattle.claims.proofs.Counts.{other-object}
-use Rattle.claims.proofs.Cells.{lookup-store, write-fitting}
+use Rattle.claims.proofs.Cells.{lookup-store, apply-few, write-fitting}
 use Rattle.claims.proofs.Aborts.{stale-refuses, refuses-stale}
 use Rattle.claims.proofs.Audits.{tail-small}
 use Rattle.claims.proofs.Leaves.{plays-so}
@@ -82,25 +82,6 @@ module _ (set : List ℕ) (v : ℕ) where
       go : (b : Bool) → mem o set ≡ b → lookup (apply set v ws cs) o k ≡ cond b (madeAll v ws (lookup cs) o k) (lookup cs o k)
       go true e = apply-hosted ws cs o k e
       go false e = apply-other ws cs o k e
-
-  -- each write adds at most one cell
-  store-few : (cs : List Cell) (o k : ℕ) (h : Held) → length (store cs o k h) ≤ length cs + 1
-  unfolding store
-  store-few [] o k h = omega arith
-  store-few (c ∷ cs) o k h = go (eqb c.object o && eqb c.key k) (store-few cs o k h)
-    where
-      go : (b : Bool) → length (store cs o k h) ≤ length cs + 1 → length (cond b (Rattle.model.specs.Table.cellOf o k h ∷ cs) (c ∷ store cs o k h)) ≤ length (c ∷ cs) + 1
-      go true ih = omega arith
-      go false ih = omega arith
-
-  apply-few : (ws : List Write) (cs : List Cell) → length (apply set v ws cs) ≤ length cs + length ws
-  unfolding apply one
-  apply-few [] cs = omega arith
-  apply-few (w ∷ ws) cs = omega (arith, apply-few ws (one w cs), go (mem w.object set))
-    where
-      go : (b : Bool) → length (cond b (store cs w.object w.key (record { version = v; content = contentOf w })) cs) ≤ length cs + 1
-      go true = store-few cs (w .object) (w .key) (record { version = v; content = contentOf w })
-      go false = omega arith
 
   apply-fits : (sh : Shape) → okShape sh ≡ true → v < 2 ^ 64 → (ws : List Write) (cs : List Cell) → all (okWrite sh) ws ≡ true → all fitsCell cs ≡ true → all fitsCell (apply set v ws cs) ≡ true
   unfolding apply one

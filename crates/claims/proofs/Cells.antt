@@ -1,11 +1,12 @@
 -- The invariant of a table's cells: they show what the cells of a set's objects hold, each is a cell of the set that fits its
 -- bytes, and none is there twice. Writes keep it, and it tells how many cells there are.
-use Prim.Native.Nat.{ℕ, _+_, _<_, _^_}
+use Prim.Native.Nat.{ℕ, _+_, _<_, _≤_, _^_}
 use mathlib.Core.Path.{_≡_, refl, ap, sym, _∙_}
 use mathlib.Core.Bool.{Bool, true, false, cond, _&&_}
 use mathlib.Core.List.{List, [], _∷_}
 use mathlib.Core.Option.{Option, none, some}
 use native.Mathlib.Numerals.{add-one}
+use native.Mathlib.Omega.{arith}
 use borrow.Author.Tests.{lt-ltb}
 use lib.Dec.{eqb}
 use lib.ListN.{length}
@@ -172,3 +173,28 @@ module _ (sh : Shape) (shape : okShape sh ≡ true) (set : List ℕ) where
     all-writes (w ∷ ws) cs cells ok s =
         all-writes ws (cond (mem w.object set) (store cs w.object w.key (record { version = v; content = contentOf w })) cs) (written v w cells)
         (and-r (okWrite sh w) (all (okWrite sh) ws) ok) (one-write w cs cells (and-l (okWrite sh w) (all (okWrite sh) ws) ok) s)
+
+-- ---- how many cells writes add
+
+store-few : (cs : List Cell) (o k : ℕ) (h : Held) → length (store cs o k h) ≤ length cs + 1
+unfolding store
+store-few [] o k h = omega arith
+store-few (c ∷ cs) o k h = go (isOf o k c) (store-few cs o k h)
+  where
+    go : (b : Bool) → length (store cs o k h) ≤ length cs + 1 → length (cond b (cellOf o k h ∷ cs) (c ∷ store cs o k h)) ≤ length (c ∷ cs) + 1
+    go true ih = omega arith
+    go false ih = omega arith
+
+-- each write at most one
+pub apply-few : (set : List ℕ) (v : ℕ) (ws : List Write) (cs : List Cell) → length (apply set v ws cs) ≤ length cs + length ws
+unfolding apply
+apply-few set v [] cs = omega arith
+apply-few set v (w ∷ ws) cs = go (mem w.object set) (λ ds. apply-few set v ws ds)
+  where
+    h : Held
+    h = record { version = v; content = contentOf w }
+
+    go : (b : Bool) → ((ds : List Cell) → length (apply set v ws ds) ≤ length ds + length ws)
+        → length (apply set v ws (cond b (store cs w.object w.key (record { version = v; content = contentOf w })) cs)) ≤ length cs + length (w ∷ ws)
+    go true ih = omega (arith, ih (store cs w.object w.key h), store-few cs (w .object) (w .key) h)
+    go false ih = omega (arith, ih cs)

@@ -26,6 +26,7 @@ use Rattle.laws.proofs.Refusals.{not-none, all-pass, refuse-none, refuseAt-none
 use Rattle.claims.proofs.Conditions.{frame-words, words-frame}
 use Rattle.claims.proofs.Reached.{standsAt, Reached, play-reached}
 use Rattle.claims.proofs.Waits.{play-waits, play-ends}
+use Rattle.claims.proofs.Rooms.{left-lacks}
 
 -- ---- the record and the stop
 
@@ -159,6 +160,7 @@ play-leaves sh l r stop = go (playRefusal sh (inLog l) (r .replica) (r .table) s
           unchanged = λ h. absurd (h p);
           stopped = stays-there sh l r stop;
           waits = rw (plays-so sh l r stop p) (play-waits (inLog l) (hosts sh r) (capacity (r .table)) (Playable sh l r stop) p (r .replica .hosting) (r .replica .position) stop (r .table) (cellsOf (r .table) (r .replica .count)) (p .fit .onward));
+          lacks = rw (plays-so sh l r stop p) (left-lacks (inLog l) (hosts sh r) (capacity (r .table)) (r .replica .hosting) (r .replica .position) stop (r .table) (cellsOf (r .table) (r .replica .count)));
         }
     go (some x) e =
         let same : playOn sh l r stop ≡ record { answer = refused x; replica = r .replica; table = r .table } =
@@ -174,6 +176,7 @@ play-leaves sh l r stop = go (playRefusal sh (inLog l) (r .replica) (r .table) s
             passes = λ p. absurd (no p);
             notBack = λ p. absurd (no p);
           };
+          lacks = λ h. absurd (let n : x .number ≡ 13 = ap code (ap (λ (y : Left). y .answer) (sym same) ∙ h) in omega arith);
         }
 
 -- what makes a play one that nothing refuses, in other words

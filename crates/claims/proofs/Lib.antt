@@ -15,6 +15,7 @@ pub mod Steps
 pub mod Growing
 pub mod Reached
 pub mod Waits
+pub mod Rooms
 pub mod Leaves
 pub mod Audits
 pub mod NeverWaits

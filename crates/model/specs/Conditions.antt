@@ -10,7 +10,7 @@ use lib.Dec.{eqb}
 use lib.ListN.{length}
 use Rattle.lists.specs.Sets.{mem}
 use Rattle.model.specs.Objects.{Shape, isCell, hosted}
-use Rattle.model.specs.Entries.{Write, Read, Held, Saved, Claim, numbered, commit, decision, Log}
+use Rattle.model.specs.Entries.{Write, Read, Held, Saved, Claim, plain, numbered, commit, decision, Log, writesOf}
 use Rattle.model.specs.Slot.{slotSize, mostSlots, itemSize}
 use Rattle.model.specs.Rules.{goodAt}
 use Rattle.model.specs.Table.{Holds, cellsOf, capacity, versionIn, lookup}
@@ -88,6 +88,10 @@ pub data Ended (stop : ℕ) (out : Left) : Type 0 where
   there : out .answer ≡ done tt → out .replica .position ≡ stop → Ended stop out
   waiting : out .answer ≡ plainly 12 → out .replica .position < stop → Ended stop out
   noRoom : out .answer ≡ plainly 13 → out .replica .position < stop → Ended stop out
+
+-- the writes that an entry makes where it is played: a plain update its own, a commit record those of its number
+abbrev pub Makes : Log → ℕ → List Write → Type 0
+Makes log p ws = (log .entry p ≡ plain ws) ⊎ ((n : ℕ) × (c : Claim) × (log .entry p ≡ commit n c) × (ws ≡ writesOf log n p))
 
 -- ---- appends
 
