@@ -10,7 +10,7 @@ use lib.Dec.{eqb}
 use lib.ListN.{length}
 use Rattle.lists.specs.Sets.{mem}
 use Rattle.model.specs.Objects.{Shape, isCell, hosted}
-use Rattle.model.specs.Entries.{Write, Read, Held, Saved, Claim, plain, numbered, commit, decision, Log, writesOf}
+use Rattle.model.specs.Entries.{Write, Read, Held, Saved, Claim, Decision, plain, numbered, commit, decision, Log, writesOf}
 use Rattle.model.specs.Slot.{slotSize, mostSlots, itemSize}
 use Rattle.model.specs.Rules.{goodAt}
 use Rattle.model.specs.Table.{Holds, cellsOf, capacity, versionIn, lookup}
@@ -46,7 +46,7 @@ Committed log n p = (q : ℕ) × (c : Claim) × (q < p) × (log .entry q ≡ com
 
 -- a decision record below p names the commit record at q
 abbrev pub Decided : Log → ℕ → ℕ → Type 0
-Decided log q p = (d : ℕ) × (v : ℕ) × (d < p) × (log .entry d ≡ decision q v)
+Decided log q p = (d : ℕ) × (r : Decision) × (d < p) × (log .entry d ≡ decision r) × (r .offset ≡ q)
 
 -- ---- commit records
 

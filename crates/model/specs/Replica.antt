@@ -10,7 +10,7 @@ use Rattle.model.specs.Objects.{Shape, ids, isCell, hosted, setOf, every
 use Rattle.model.specs.Entries.{Held, Saved, Entry, plain, numbered, commit, decision, checkpoint, blank, Log, commitAt, ifSome, isNone}
 use Rattle.model.specs.Rules.{lowest}
 use Rattle.model.specs.Table.{Cell, cellsOf, tableWith, capacity, lookup, cellOf, savedOf}
-use Rattle.model.specs.Play.{Played, going, waits, lacks, cellsIn, commitsOver, play}
+use Rattle.model.specs.Play.{Played, going, waits, lacks, cellsIn, commitsOver, play, Beginning, beginning}
 use Rattle.model.specs.Answers.{Refusal, Answer, done, refused, refuse, refuseAt, firstOf, answer, frameAndEntries}
 use Rattle.model.specs.Append.{Replica, badRecord, badReplica}
 
@@ -44,7 +44,7 @@ abbrev pub checkpointIn : Entry → Option Checkpoint
 checkpointIn (plain ws) = none
 checkpointIn (numbered n ws) = none
 checkpointIn (commit n c) = none
-checkpointIn (decision o v) = none
+checkpointIn (decision d) = none
 checkpointIn (checkpoint o cs) = some (record { object = o; cells = map (λ (c : Saved). cellOf o c.key c.held) cs })
 checkpointIn blank = none
 
@@ -87,7 +87,7 @@ playGiven r stop table p none = leftBy (r .hosting) stop table p
 playGiven r stop table p (some x) = record { answer = refused x; replica = r; table = table }
 
 abbrev pub playFrom : Shape → Log → Replica → List ℕ → ℕ → Played
-playFrom sh log r table stop = play log (hosted sh (r .hosting)) (capacity table) (r .position) (cellsOf table (r .count)) (stop - r .position)
+playFrom sh log r table stop = play sh log (hosted sh (r .hosting)) (capacity table) (r .position) (cellsOf table (r .count)) (stop - r .position)
 
 unfoldable pub playCall : Shape → Log → Replica → List ℕ → ℕ → Left
 playCall sh log r table stop = playGiven r stop table (playFrom sh log r table stop) (playRefusal sh log r table stop)
@@ -98,9 +98,9 @@ readCell sh r table o k =
     answer (firstOf (refuse 10 (badRecord r table) ∷ refuse 3 (not (mem o (hosted sh (r .hosting)) && isCell sh o k)) ∷ []))
     (lookup (cellsOf table (r .count)) o k)
 
--- the audit's play: every object, from offset 0, no cells (11.1)
+-- the audit's play: every object, from the beginning (11.1)
 abbrev pub auditPlay : Shape → Log → ℕ → ℕ → Played
-auditPlay sh log room p = play log (ids sh) room 0 [] p
+auditPlay sh log room p = let b = beginning log (ids sh) in play sh log (ids sh) room (b .position) (b .cells) p
 
 -- whether the commit record at p commits over the cells as played to it
 abbrev pub commitsThere : Shape → Log → ℕ → ℕ → Bool
@@ -124,7 +124,7 @@ abbrev pub asPlayed : Shape → Log → ℕ → ℕ → Entry → Bool
 asPlayed sh log room p (plain ws) = true
 asPlayed sh log room p (numbered n ws) = true
 asPlayed sh log room p (commit n c) = true
-asPlayed sh log room p (decision o v) = Bool·beq (eqb v 1) (commitsThere sh log room o)
+asPlayed sh log room p (decision d) = Bool·beq (eqb d.outcome 1) (commitsThere sh log room (d .offset))
 asPlayed sh log room p (checkpoint o cs) = sameSaved cs (savedOf o (cellsIn (auditPlay sh log room p)))
 asPlayed sh log room p blank = true
 

@@ -16,9 +16,9 @@ use Rattle.lists.specs.Picks.{picks}
 use Rattle.lists.specs.Equal.{eqList}
 use Rattle.lists.specs.Sets.{all, any, isEmpty, mem, meets}
 use Rattle.model.specs.Objects.{Object, ObjectKind, aMap, aRegister, Shape, isObject, isCell, isMarked, hosted}
-use Rattle.model.specs.Entries.{Read, Held, Log, decides as decidesFor, commitAt, ifSome, isNone, writesOf, closed, decided, headerObjects, numberOf, earlier, commitObjects}
-use Rattle.model.specs.Slot.{writeBytes, writeAt, readBytes, readAt, savedBytes, savedAt, itemBytes, itemCount, headerOf, slotOf, decode, slot, logIn}
-use Rattle.model.specs.Rules.{okEntry, lowest, lowestBad, okWrite, okWrites, okRead, okReads, okSaved, narrow, goodAt}
+use Rattle.model.specs.Entries.{Read, Held, Log, decisionIn, commitAt, ifSome, isNone, writesOf, closed, decided, Decision, headerObjects, numberOf, earlier, commitObjects}
+use Rattle.model.specs.Slot.{writeBytes, writeAt, readBytes, readAt, savedBytes, savedAt, itemBytes, itemCount, headerOf, slotOf, decode, slot, logIn, decisionAt, objectsIn}
+use Rattle.model.specs.Rules.{okEntry, lowest, lowestBad, okWrite, okWrites, okRead, okReads, okSaved, narrow, goodAt, repeats}
 use Rattle.model.specs.Table.{Cell, Holds, cellAt, cellBytes, cellsOf, tableWith, capacity, apply, savedOf, versionIn, lookup, store}
 use Rattle.model.specs.Play.{play, commitsOver, outcome, step}
 use Rattle.model.specs.Answers.{Answer, done, refused, badFrame}
@@ -88,17 +88,17 @@ abbrev pub isInfo : Answer Info → ℕ → ℕ → List ℕ → Bool
 isInfo (done i) k n os = eqb i.kind k && eqb i.number n && eqList (headerObjectsIn i) os
 isInfo (refused r) k n os = false
 
-abbrev pub givenItems : Request → List ℕ
-givenItems (update n items) = items
-givenItems (commits n items) = items
-givenItems (decides o v) = itemBytes (entryOf (decides o v))
-givenItems (saves r table o) = itemBytes (entryOf (saves r table o))
+abbrev pub givenItems : Log → Request → List ℕ
+givenItems log (update n items) = items
+givenItems log (commits n items) = items
+givenItems log (decides o v) = itemBytes (entryOf log (decides o v))
+givenItems log (saves r table o) = itemBytes (entryOf log (saves r table o))
 
 abbrev pub backHolds : Lent → Request → Lent → Bool
 backHolds l q new =
     let log = inLog new in
-    isInfo (entryCall small log (l .tail)) (kindGiven q) (numberOf (inLog l) (l .tail) (entryOf q)) (headerObjects (inLog l) (l .tail) (entryOf q))
-    && eqList (itemList small log (l .tail)) (givenItems q)
+    isInfo (entryCall small log (l .tail)) (kindGiven q) (numberOf (entryOf (inLog l) q)) (headerObjects (inLog l) (l .tail) (entryOf (inLog l) q))
+    && eqList (itemList small log (l .tail)) (givenItems (inLog l) q)
 
 abbrev pub backsHold : Lent → List Request → Bool
 backsHold l [] = true
@@ -108,7 +108,7 @@ backsHold l (q ∷ qs) = let new = after small l q in (eqb (new .tail) (l .tail)
 abbrev pub blocked : Log → List ℕ → ℕ → Bool
 blocked log set q = ifSome (commitAt log q) false (λ c. meets set (commitObjects log q (c .number))
     && any (λ (x : Read). not (mem x.object set)) (c .claim .reads)
-    && below (λ d. isNone (decidesFor q (log .entry d) none)) (log .tail))
+    && below (λ d. ifSome (decisionIn (log .entry d)) true (λ (r : Decision). not (eqb r.offset q))) (log .tail))
 
 -- Shows, with the next play of the sample
 abbrev pub waitsHold : Log → List ℕ → ℕ → ℕ → Left → Bool
@@ -138,7 +138,7 @@ abbrev pub outcomeHolds : (ℕ → Run) → Log → Carried → Bool
 outcomeHolds ran log r =
     let p = r .replica .position in
     ifSome (commitAt log p) true (λ c. not (meets (hosts small r) (commitObjects log p (c .number)))
-    || ifSome (outcome log (hosts small r) p (cellsOf (r .table) (r .replica .count)) (c .claim)) true
+    || ifSome (outcome small log (hosts small r) p (cellsOf (r .table) (r .replica .count)) (c .claim)) true
     (λ b. Bool·beq b (current (ran p .cells) (c .claim .reads))))
 
 -- the parts of Shows that speak of the replica as it is
@@ -246,5 +246,5 @@ mistakes =
     ∷ []
 
 pub mistakes-shown : all sampleHolds mistakes ≡ true
-unfolding sampleHolds beAt bytesOf splice values joined first firstFrom picks eqList writesOf closed decided headerObjects numberOf earlier writeBytes writeAt readBytes readAt savedBytes savedAt itemBytes itemCount headerOf slotOf decode slot logIn okEntry lowest lowestBad cellAt cellBytes cellsOf tableWith apply savedOf play commitsOver owed entryCall itemList infoIn entryOf ownTests append openFresh openAt playCall readCell audit accept runAt grown feed isObject isCell isMarked hosted okWrite okWrites okRead okReads okSaved narrow goodAt lookup store step badFrame
+unfolding sampleHolds beAt bytesOf splice values joined first firstFrom picks eqList writesOf closed decided headerObjects earlier writeBytes writeAt readBytes readAt savedBytes savedAt itemBytes itemCount headerOf slotOf decode slot logIn okEntry lowest lowestBad cellAt cellBytes cellsOf tableWith apply savedOf play commitsOver owed entryCall itemList infoIn entryOf ownTests append openFresh openAt playCall readCell audit accept runAt grown feed isObject isCell isMarked hosted okWrite okWrites okRead okReads okSaved narrow goodAt lookup store step badFrame decisionAt objectsIn repeats
 mistakes-shown = refl
