@@ -57,8 +57,8 @@ depends-log sh a b tail e f =
       opens = λ o table. ap (λ l. openAt sh l o table) same;
       plays = λ r table stop. ap (λ l. playCall sh l r table stop) same;
       audits = λ table. ap (λ l. audit sh l table) same;
-      appends = λ q. answered a b _ (slotOf (logOf b tail) tail (entryOf q)) tail (appendRefusal sh (logOf a tail) q)
-          ∙ ap (λ l. appendGiven b tail (slotOf (logOf b tail) tail (entryOf q)) (appendRefusal sh l q) .newTail) same;
+      appends = λ q. answered a b _ (slotOf (logOf b tail) tail (entryOf (logOf b tail) q)) tail (appendRefusal sh (logOf a tail) q)
+          ∙ ap (λ l. appendGiven b tail (slotOf (logOf b tail) tail (entryOf (logOf b tail) q)) (appendRefusal sh l q) .newTail) same;
     }
 
 -- ---- the table

@@ -22,7 +22,7 @@ use Rattle.lists.specs.Tests.{ors}
 use Rattle.laws.proofs.Refusals.{all-pass, refuse-none}
 use Rattle.laws.proofs.Tables.{length-cells, length-stored}
 
-module _ (log : Log) (set : List ℕ) (room : ℕ) where
+module _ (sh : Shape) (log : Log) (set : List ℕ) (room : ℕ) where
   make-fits : (p : ℕ) (ws : List Write) (cs : List Cell) → length cs ≤ room → length (cellsIn (make set room p ws cs)) ≤ room
   make-fits p ws cs h = go (apply set (versionAt p) ws cs) (leb (length (apply set (versionAt p) ws cs)) room) refl
     where
@@ -35,26 +35,26 @@ module _ (log : Log) (set : List ℕ) (room : ℕ) where
   finish-fits p ws cs (some true) h = make-fits p ws cs h
   finish-fits p ws cs (some false) h = h
 
-  act-fits : (p : ℕ) (cs : List Cell) (e : Effect) → length cs ≤ room → length (cellsIn (act log set room p cs e)) ≤ room
+  act-fits : (p : ℕ) (cs : List Cell) (e : Effect) → length cs ≤ room → length (cellsIn (act sh log set room p cs e)) ≤ room
   act-fits p cs (writes ws) h = make-fits p ws cs h
   act-fits p cs (aside n ws) h = h
-  act-fits p cs (tries n c) h = finish-fits p (writesOf log n p) cs (outcome log set p cs c) h
+  act-fits p cs (tries n c) h = finish-fits p (writesOf log n p) cs (outcome sh log set p cs c) h
   act-fits p cs inert h = h
 
-  step-fits : (p : ℕ) (cs : List Cell) → length cs ≤ room → length (cellsIn (step log set room p cs)) ≤ room
+  step-fits : (p : ℕ) (cs : List Cell) → length cs ≤ room → length (cellsIn (step sh log set room p cs)) ≤ room
   unfolding step
   step-fits p cs h = go (meets set (headerObjects log p (log .entry p)))
     where
-      go : (b : Bool) → length (cellsIn (cond b (act log set room p cs (effect (log .entry p))) (going cs))) ≤ room
+      go : (b : Bool) → length (cellsIn (cond b (act sh log set room p cs (effect (log .entry p))) (going cs))) ≤ room
       go true = act-fits p cs (effect (log .entry p)) h
       go false = h
 
-  pub play-fits : (p : ℕ) (cs : List Cell) (n : ℕ) → length cs ≤ room → length (cellsIn (play log set room p cs n)) ≤ room
+  pub play-fits : (p : ℕ) (cs : List Cell) (n : ℕ) → length cs ≤ room → length (cellsIn (play sh log set room p cs n)) ≤ room
   unfolding play
   play-fits p cs zero h = h
-  play-fits p cs (suc n) h = go (play log set room p cs n) (play-fits p cs n h)
+  play-fits p cs (suc n) h = go (play sh log set room p cs n) (play-fits p cs n h)
     where
-      go : (x : Played) → length (cellsIn x) ≤ room → length (cellsIn (andThen x (step log set room (p + n)))) ≤ room
+      go : (x : Played) → length (cellsIn x) ≤ room → length (cellsIn (andThen x (step sh log set room (p + n)))) ≤ room
       go (going cs) h = step-fits (p + n) cs h
       go (waits q cs) h = h
       go (lacks q cs) h = h
@@ -76,7 +76,7 @@ fitting r stop t (lacks q cs) h = record { size = length-with t cs h; fits = h }
 module _ (sh : Shape) (log : Log) (r : Replica) (t : List ℕ) (stop : ℕ) where
   played : r .count ≤ capacity t → Fitting t (playGiven r stop t (playFrom sh log r t stop) none)
   played h = fitting r stop t (playFrom sh log r t stop)
-      (play-fits log (hosted sh (r .hosting)) (capacity t) (r .position) (cellsOf t (r .count)) (stop - r .position) (omega (arith, length-cells t (r .count))))
+      (play-fits sh log (hosted sh (r .hosting)) (capacity t) (r .position) (cellsOf t (r .count)) (stop - r .position) (omega (arith, length-cells t (r .count))))
 
   pub play-fitting : r .count ≤ capacity t → Fitting t (playCall sh log r t stop)
   unfolding playCall

@@ -14,7 +14,7 @@ use Rattle.lists.specs.First.{first, firstFrom}
 use Rattle.lists.specs.Equal.{eqList}
 use Rattle.model.specs.Objects.{Object, ObjectKind, aMap, aRegister, theObjects, depots, ids, isObject, isCell, isMarked, hosted, setOf, everything}
 use Rattle.model.specs.Entries.{Held, Saved, Entry, isNone, numbered, commit, decision, checkpoint, Log, writesOf, closed, decided, headerObjects, numberOf, earlier}
-use Rattle.model.specs.Slot.{valueField, pointers, writeBytes, writeAt, readBytes, readAt, savedBytes, savedAt, itemBytes, itemCount, headerOf, slotOf, decode, slot, logIn, decisionAt, objectsIn}
+use Rattle.model.specs.Slot.{valueField, pointers, writeBytes, writeAt, readBytes, readAt, savedBytes, savedAt, itemBytes, itemCount, headerOf, slotOf, decode, slot, logIn, objectsIn}
 use Rattle.model.specs.Rules.{okEntry, lowest, lowestBad, okWrite, okWrites, okRead, okReads, okSaved, narrow, goodAt, repeats}
 use Rattle.model.specs.Table.{cellAt, cellBytes, cellsOf, tableWith, apply, savedOf, lookup, store}
 use Rattle.model.specs.Play.{play, commitsOver, step}
@@ -137,7 +137,7 @@ slot6 =
 -- the log that the appends leave in eight slots: seven entries, and the last slot as it was
 pub entries-written : (let l = logBy 8 kinds in
     eqb (l .tail) 7 && eqList (l .bytes) (slot0 ++ slot1 ++ slot2 ++ slot3 ++ slot4 ++ slot5 ++ slot6 ++ replicate 256 7)) ≡ true
-unfolding beAt bytesOf splice values joined first firstFrom eqList writesOf closed decided headerObjects earlier writeBytes writeAt readBytes readAt savedBytes savedAt itemBytes itemCount headerOf slotOf decode slot logIn okEntry lowest lowestBad cellAt cellBytes cellsOf savedOf commitsOver entryOf ownTests append grown isObject isCell isMarked hosted okWrite okWrites okRead okReads okSaved narrow goodAt badFrame decisionAt objectsIn repeats
+unfolding beAt bytesOf splice values joined first firstFrom eqList writesOf closed decided headerObjects earlier writeBytes writeAt readBytes readAt savedBytes savedAt itemBytes itemCount headerOf slotOf decode slot logIn okEntry lowest lowestBad cellAt cellBytes cellsOf savedOf commitsOver entryOf ownTests append grown isObject isCell isMarked hosted okWrite okWrites okRead okReads okSaved narrow goodAt badFrame objectsIn repeats
 entries-written = refl
 
 -- Table cells: object, key, value, present, version. Object 5 played over entry 0 and a table of 50 bytes: a cell with a value and a
@@ -157,7 +157,7 @@ pub cells-written : (
     && shows (readCell depots (record { hosting = 0x10; position = 0; count = 1 }) (
     0x00 ∷ 0x00 ∷ 0x00 ∷ 0x05 ∷ 0x00 ∷ 0x00 ∷ 0x12 ∷ 0x34 ∷ 0xA0 ∷ 0xB0 ∷ 0xC0 ∷ 0xD0 ∷ 0x00 ∷ 0x00 ∷ 0x00 ∷ 0x01
     ∷ 0x01 ∷ 0x02 ∷ 0x03 ∷ 0x04 ∷ 0x05 ∷ 0x06 ∷ 0x07 ∷ 0x08 ∷ []) 5 0x1234) 0x0102030405060708 0xA0B0C0D0) ≡ true
-unfolding beAt bytesOf splice values joined first firstFrom eqList writesOf closed decided headerObjects earlier writeBytes writeAt readBytes readAt savedBytes savedAt itemBytes itemCount headerOf slotOf decode slot logIn okEntry lowest lowestBad cellAt cellBytes cellsOf tableWith apply savedOf play commitsOver entryOf ownTests append openFresh playCall readCell grown isObject isCell isMarked hosted okWrite okWrites okRead okReads okSaved narrow goodAt lookup store step badFrame decisionAt objectsIn repeats
+unfolding beAt bytesOf splice values joined first firstFrom eqList writesOf closed decided headerObjects earlier writeBytes writeAt readBytes readAt savedBytes savedAt itemBytes itemCount headerOf slotOf decode slot logIn okEntry lowest lowestBad cellAt cellBytes cellsOf tableWith apply savedOf play commitsOver entryOf ownTests append openFresh playCall readCell grown isObject isCell isMarked hosted okWrite okWrites okRead okReads okSaved narrow goodAt lookup store step badFrame objectsIn repeats
 cells-written = refl
 
 -- A long log, without bytes: object 2 has the update at 0 and its commit record at 0x0304, and every other entry is of object 1.

@@ -19,7 +19,7 @@ use Rattle.lists.specs.First.{first, firstFrom}
 use Rattle.lists.specs.Equal.{eqList}
 use Rattle.model.specs.Objects.{isObject, isCell, isMarked, hosted}
 use Rattle.model.specs.Entries.{writesOf, closed, decided, headerObjects, numberOf, earlier}
-use Rattle.model.specs.Slot.{writeBytes, writeAt, readBytes, readAt, savedBytes, savedAt, itemBytes, itemCount, headerOf, slotOf, decode, slot, logIn, slotSize, decisionAt, objectsIn}
+use Rattle.model.specs.Slot.{writeBytes, writeAt, readBytes, readAt, savedBytes, savedAt, itemBytes, itemCount, headerOf, slotOf, decode, slot, logIn, slotSize, objectsIn}
 use Rattle.model.specs.Rules.{okEntry, lowest, lowestBad, okWrite, okWrites, okRead, okReads, okSaved, narrow, goodAt, repeats}
 use Rattle.model.specs.Table.{cellAt, cellBytes, cellsOf, tableWith, apply, savedOf, lookup, store}
 use Rattle.model.specs.Play.{play, commitsOver, step}
@@ -56,12 +56,12 @@ asked =
     ∷ []
 
 pub refusals-told : eqList (let l = four 5 in codes l asked) (3 ∷ 3 ∷ 5 ∷ 4 ∷ 0 ∷ 3 ∷ 3 ∷ 4 ∷ 6 ∷ 3 ∷ 3 ∷ 7 ∷ 8 ∷ 10 ∷ 3 ∷ 14 ∷ 0 ∷ []) ≡ true
-unfolding beAt bytesOf splice values joined first firstFrom picks eqList writesOf closed decided headerObjects earlier writeBytes writeAt readBytes readAt savedBytes savedAt itemBytes itemCount headerOf slotOf decode slot logIn okEntry lowest lowestBad cellAt cellBytes cellsOf tableWith apply savedOf play commitsOver owed entryCall itemList infoIn entryOf ownTests append openFresh openAt playCall readCell audit accept runAt grown feed isObject isCell isMarked hosted okWrite okWrites okRead okReads okSaved narrow goodAt lookup store step badFrame decisionAt objectsIn repeats
+unfolding beAt bytesOf splice values joined first firstFrom picks eqList writesOf closed decided headerObjects earlier writeBytes writeAt readBytes readAt savedBytes savedAt itemBytes itemCount headerOf slotOf decode slot logIn okEntry lowest lowestBad cellAt cellBytes cellsOf tableWith apply savedOf play commitsOver owed entryCall itemList infoIn entryOf ownTests append openFresh openAt playCall readCell audit accept runAt grown feed isObject isCell isMarked hosted okWrite okWrites okRead okReads okSaved narrow goodAt lookup store step badFrame objectsIn repeats
 refusals-told = refl
 
 -- a full log: 9, and the refusals that come before it
 pub full-told : eqList (let l = four 4 in codes l (update 0 (put 1 0 1) ∷ commits 8 [] ∷ decides 2 1 ∷ by 2 4 2 ∷ [])) (9 ∷ 6 ∷ 8 ∷ 9 ∷ []) ≡ true
-unfolding beAt bytesOf splice values joined first firstFrom picks eqList writesOf closed decided headerObjects earlier writeBytes writeAt readBytes readAt savedBytes savedAt itemBytes itemCount headerOf slotOf decode slot logIn okEntry lowest lowestBad cellAt cellBytes cellsOf tableWith apply savedOf play commitsOver owed entryCall itemList infoIn entryOf ownTests append openFresh openAt playCall readCell audit accept runAt grown feed isObject isCell isMarked hosted okWrite okWrites okRead okReads okSaved narrow goodAt lookup store step badFrame decisionAt objectsIn repeats
+unfolding beAt bytesOf splice values joined first firstFrom picks eqList writesOf closed decided headerObjects earlier writeBytes writeAt readBytes readAt savedBytes savedAt itemBytes itemCount headerOf slotOf decode slot logIn okEntry lowest lowestBad cellAt cellBytes cellsOf tableWith apply savedOf play commitsOver owed entryCall itemList infoIn entryOf ownTests append openFresh openAt playCall readCell audit accept runAt grown feed isObject isCell isMarked hosted okWrite okWrites okRead okReads okSaved narrow goodAt lookup store step badFrame objectsIn repeats
 full-told = refl
 
 -- frame: the tail above the slots; a bad entry, with its offset
@@ -69,7 +69,7 @@ pub frame-told : (let l = four 5 in
     let above = append small (l .bytes) 6 (update 0 (put 1 0 1)) .newTail in
     let junk = append small (l .bytes) 5 (update 0 (put 1 0 1)) .newTail in
     eqb (code above) 1 && eqb (code junk) 2 && sameOffset (tells junk) (some 4)) ≡ true
-unfolding beAt bytesOf splice values joined first firstFrom picks eqList writesOf closed decided headerObjects earlier writeBytes writeAt readBytes readAt savedBytes savedAt itemBytes itemCount headerOf slotOf decode slot logIn okEntry lowest lowestBad cellAt cellBytes cellsOf tableWith apply savedOf play commitsOver owed entryCall itemList infoIn entryOf ownTests append openFresh openAt playCall readCell audit accept runAt grown feed isObject isCell isMarked hosted okWrite okWrites okRead okReads okSaved narrow goodAt lookup store step badFrame decisionAt objectsIn repeats
+unfolding beAt bytesOf splice values joined first firstFrom picks eqList writesOf closed decided headerObjects earlier writeBytes writeAt readBytes readAt savedBytes savedAt itemBytes itemCount headerOf slotOf decode slot logIn okEntry lowest lowestBad cellAt cellBytes cellsOf tableWith apply savedOf play commitsOver owed entryCall itemList infoIn entryOf ownTests append openFresh openAt playCall readCell audit accept runAt grown feed isObject isCell isMarked hosted okWrite okWrites okRead okReads okSaved narrow goodAt lookup store step badFrame objectsIn repeats
 frame-told = refl
 
 -- the reader: found, the end, above the tail, no object; the list: done with the rest untouched, and too short
@@ -82,5 +82,5 @@ isListed x c l = eqb (code (x .count)) c && eqList (x .list) l
 pub streams-told : (let log = inLog (four 5) in
     isNext (streamNext small log 5 0) 0 2 && isNext (streamNext small log 5 4) 0 4 && isNext (streamNext small log 5 5) 3 5 && isNext (streamNext small log 9 0) 3 0
     && isListed (streamList small log 5 (replicate 5 7)) 0 (1 ∷ 2 ∷ 3 ∷ 7 ∷ 7 ∷ []) && isListed (streamList small log 2 (replicate 3 7)) 13 (7 ∷ 7 ∷ 7 ∷ [])) ≡ true
-unfolding streamNext streamList offsetsOf beAt bytesOf splice values joined first firstFrom picks eqList writesOf closed decided headerObjects earlier writeBytes writeAt readBytes readAt savedBytes savedAt itemBytes itemCount headerOf slotOf decode slot logIn okEntry lowest lowestBad cellAt cellBytes cellsOf tableWith apply savedOf play commitsOver owed entryCall itemList infoIn entryOf ownTests append openFresh openAt playCall readCell audit accept runAt grown feed isObject isCell isMarked hosted okWrite okWrites okRead okReads okSaved narrow goodAt lookup store step badFrame decisionAt objectsIn repeats
+unfolding streamNext streamList offsetsOf beAt bytesOf splice values joined first firstFrom picks eqList writesOf closed decided headerObjects earlier writeBytes writeAt readBytes readAt savedBytes savedAt itemBytes itemCount headerOf slotOf decode slot logIn okEntry lowest lowestBad cellAt cellBytes cellsOf tableWith apply savedOf play commitsOver owed entryCall itemList infoIn entryOf ownTests append openFresh openAt playCall readCell audit accept runAt grown feed isObject isCell isMarked hosted okWrite okWrites okRead okReads okSaved narrow goodAt lookup store step badFrame objectsIn repeats
 streams-told = refl
