@@ -25,7 +25,7 @@ use Rattle.model.specs.Claims.{AcceptsExactly}
 use Rattle.laws.proofs.Directory.{hosted-listed}
 use Rattle.laws.proofs.Refusals.{AllPass, all-pass, refuse-none, refuseAt-none, not-none, good-below, below-good}
 use Rattle.laws.proofs.Appends.{has-room, passed, wrote}
-use Rattle.laws.proofs.ByKind.{commit-entry}
+use Rattle.laws.proofs.Decisions.{commit-entry}
 use Rattle.claims.proofs.Conditions.{frame-words, words-frame, writes-aside, aside-writes, closed-words, words-closed, undecided-words, words-undecided}
 use Rattle.claims.proofs.Words.{whole-words, words-whole, numbered-if, if-numbered, writes-words, words-writes, narrow-words, words-narrow, reads-words, words-reads, cells-words, words-cells, keys-words, words-keys}
 

@@ -94,17 +94,17 @@ module _ (set : List ℕ) (v : ℕ) where
 
 -- ---- the step at the commit record
 
-module _ (log : Log) (set : List ℕ) (room p n : ℕ) (c : Claim) (here : log .entry p ≡ commit n c) where
-  decides-alone : meets set (commitObjects log p n) ≡ true → alone set c ≡ true → (cs : List Cell)
-      → play log set room p cs (p + 1 - p) ≡ finish set room p (writesOf log n p) cs (some (commitsOver (lookup cs) c))
+module _ (sh : Shape) (log : Log) (set : List ℕ) (room p n : ℕ) (c : Claim) (here : log .entry p ≡ commit n c) where
+  decides-alone : meets set (commitObjects log p n) ≡ true → alone sh set c ≡ true → (cs : List Cell)
+      → play sh log set room p cs (p + 1 - p) ≡ finish set room p (writesOf log n p) cs (some (commitsOver (lookup cs) c))
   unfolding play step headerObjects
   decides-alone m a cs =
       let e : p + 1 - p ≡ 1 = omega arith in
-      ap (play log set room p cs) e ∙ rw (add-zero, here, m, a)
+      ap (play sh log set room p cs) e ∙ rw (add-zero, here, m, a)
 
-reads-within : (set : List ℕ) (xs : List Read) → ((x : Read) → List·Memᴰ x xs → mem x.object set ≡ true) → alone set (record { reads = xs }) ≡ true
-reads-within set [] h = refl
-reads-within set (x ∷ xs) h = rw (h x (List·Memᴰ·head refl)) (reads-within set xs (λ y m. h y (List·Memᴰ·tail m)))
+reads-within : (sh : Shape) (set : List ℕ) (xs : List Read) → ((x : Read) → List·Memᴰ x xs → mem x.object set ≡ true) → alone sh set (record { reads = xs }) ≡ true
+reads-within sh set [] h = refl
+reads-within sh set (x ∷ xs) h = rw (h x (List·Memᴰ·head refl)) (reads-within sh set xs (λ y m. h y (List·Memᴰ·tail m)))
 
 -- ---- the play
 
@@ -139,8 +139,8 @@ module _ (sh : Shape) (shape : okShape sh ≡ true) (l : Lent) (r : Carried) (n 
   crossed =
       plays-so sh l r (p + 1) (given .playable)
       ∙ ap (leftBy (r .replica .hosting) (p + 1) (r .table))
-      (decides-alone log (hosts sh r) room p n c (given .here) (words-concerns log (hosts sh r) n p (given .concerns))
-      (reads-within (hosts sh r) (c .reads) (given .hostsReads)) cs)
+      (decides-alone sh log (hosts sh r) room p n c (given .here) (words-concerns log (hosts sh r) n p (given .concerns))
+      (reads-within sh (hosts sh r) (c .reads) (given .hostsReads)) cs)
 
   -- the counted cells stored again are the table
   same-count : length cs ≡ r .replica .count

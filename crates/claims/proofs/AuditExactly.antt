@@ -15,7 +15,7 @@ use Rattle.lists.specs.Tests.{ands, clash}
 use Rattle.lists.specs.First.{first, first-below, first-at}
 use Rattle.lists.specs.Sets.{mem}
 use Rattle.model.specs.Objects.{Object, Shape, ids, isCell, hostedBy, hosted, everyBit, everything, okShape}
-use Rattle.model.specs.Entries.{Entry, plain, numbered, commit, decision, checkpoint, blank, effect, Log, commitIn, ifSome, isNone}
+use Rattle.model.specs.Entries.{Decision, Entry, plain, numbered, commit, decision, checkpoint, blank, effect, Log, commitIn, ifSome, isNone}
 use Rattle.model.specs.Slot.{logIn}
 use Rattle.model.specs.Rules.{okEntry, lowest, lowestBad}
 use Rattle.model.specs.Table.{Cell, Holds, capacity, tableWith}
@@ -184,14 +184,14 @@ module _ (sh : Shape) (shape : okShape sh ≡ true) (h : History) (scratch : Lis
     left-so = rw (frame, good)
 
     module _ (ended : isGoing (auditPlay sh log room (log .tail)) ≡ true) where
-      obeys : (d o v : ℕ) → d < log .tail → log .entry d ≡ decision o v → okEntry sh log d (decision o v) ≡ true
-      obeys d o v l e = rw e at (good-kept sh log good d l)
+      obeys : (d : ℕ) (r : Decision) → d < log .tail → log .entry d ≡ decision r → okEntry sh log d (decision r) ≡ true
+      obeys d r l e = rw e at (good-kept sh log good d l)
 
       told-agrees : (d : ℕ) → d < log .tail → asPlayed sh log room d (log .entry d) ≡ true → Agrees (wholeLog sh h) (ranTo sh h) d
       told-agrees d l t = record {
-        decisions = λ o v n c e i.
-            let b = decision-below sh log d o v (obeys d o v l e) in
-            rw (same o (omega arith)) (decision-judged sh shape log room frame good ended d o v n c l b i .0 (rw e at t));
+        decisions = λ r n c e i.
+            let b = decision-below sh log d r (obeys d r l e) in
+            rw (same (r .offset) (omega arith)) (decision-judged sh shape log room frame good ended d r n c l b i .0 (rw e at t));
         checkpoints = λ o cs e k. rw (same d (omega arith)) (checkpoint-judged sh shape log room frame good ended d o cs l e .0 (rw e at t) k);
       }
 
@@ -199,26 +199,26 @@ module _ (sh : Shape) (shape : okShape sh ≡ true) (h : History) (scratch : Lis
       unfolding okEntry
       agrees-told d l a = go (log .entry d) refl
         where
-          at : (o v : ℕ) → log .entry d ≡ decision o v → (x : Entry) → log .entry o ≡ x → not (isNone (commitIn (effect x))) ≡ true → asPlayed sh log room d (decision o v) ≡ true
-          at o v e (plain ws) i k = clash false k refl
-          at o v e (numbered n ws) i k = clash false k refl
-          at o v e (commit n c) i k =
-              let b = decision-below sh log d o v (obeys d o v l e) in
-              decision-judged sh shape log room frame good ended d o v n c l b i .1 (rw (same o (omega arith)) at (a .decisions o v n c e i))
-          at o v e (decision q u) i k = clash false k refl
-          at o v e (checkpoint q cs) i k = clash false k refl
-          at o v e blank i k = clash false k refl
+          at : (r : Decision) → log .entry d ≡ decision r → (x : Entry) → log .entry (r .offset) ≡ x → not (isNone (commitIn (effect x))) ≡ true → asPlayed sh log room d (decision r) ≡ true
+          at r e (plain ws) i k = clash false k refl
+          at r e (numbered n ws) i k = clash false k refl
+          at r e (commit n c) i k =
+              let b = decision-below sh log d r (obeys d r l e) in
+              decision-judged sh shape log room frame good ended d r n c l b i .1 (rw (same (r .offset) (omega arith)) at (a .decisions r n c e i))
+          at r e (decision s) i k = clash false k refl
+          at r e (checkpoint q cs) i k = clash false k refl
+          at r e blank i k = clash false k refl
 
           go : (x : Entry) → log .entry d ≡ x → asPlayed sh log room d x ≡ true
           go (plain ws) e = refl
           go (numbered n ws) e = refl
           go (commit n c) e = refl
-          go (decision o v) e = let k = obeys d o v l e in at o v e (log .entry o) refl (search ands)
+          go (decision r) e = let k = obeys d r l e in at r e (log .entry (r .offset)) refl (search ands)
           go (checkpoint o cs) e = checkpoint-judged sh shape log room frame good ended d o cs l e .1 (rw (same d (omega arith)) at (a .checkpoints o cs e))
           go blank e = refl
 
     fits : length (cellsIn (auditPlay sh log room (log .tail))) ≤ room
-    fits = play-fits log (ids sh) room 0 [] (log .tail) (omega arith)
+    fits = play-fits sh log (ids sh) room 0 [] (log .tail) (omega arith)
 
     -- with room the cells are those at the tail
     cells-all : (cs : List Cell) → Shown sh (ids sh) cs (run log (log .tail) .cells) → length cs ≡ writtenBy sh (ranTo sh h) (log .tail)

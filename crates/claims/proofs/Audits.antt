@@ -13,7 +13,7 @@ use Rattle.lists.specs.Tests.{and-r, ands, ors, both, beq-true, clash}
 use Rattle.lists.specs.Sets.{all, within}
 use Rattle.model.specs.Slot.{mostSlots}
 use Rattle.model.specs.Objects.{Shape, ids, isCell, okShape, everything}
-use Rattle.model.specs.Entries.{Write, Read, Claim, Entry, plain, numbered, commit, decision, checkpoint, blank, Effect, writes, aside, tries, inert, effect, Log, commitIn, ifSome, readObjects}
+use Rattle.model.specs.Entries.{Decision, Write, Read, Claim, Entry, plain, numbered, commit, decision, checkpoint, blank, Effect, writes, aside, tries, inert, effect, Log, commitIn, ifSome, readObjects}
 use Rattle.model.specs.Rules.{okWrite, okWrites, okRead, okReads, okEntry, lowestBad}
 use Rattle.model.specs.Table.{Cell, lookup, capacity}
 use Rattle.model.specs.Play.{Played, going, waits, lacks, cellsIn, alone, commitsOver, step, andThen, play}
@@ -87,34 +87,34 @@ module _ (sh : Shape) (log : Log) (tail : ℕ) (kept : Kept sh log tail) where
           rw (← i) j
       now ws (numbered n us) k q = clash true refl (cc)
       now ws (commit n c) k q = clash true refl (cc)
-      now ws (decision o v) k q = clash true refl (cc)
+      now ws (decision r) k q = clash true refl (cc)
       now ws (checkpoint o cs) k q = clash true refl (cc)
       now ws blank k q = clash true refl (cc)
 
   -- a commit record's reads are all hosted by the audit
-  pub hosted-reads : (p n : ℕ) (c : Claim) → p < tail → effect (log .entry p) ≡ tries n c → alone (ids sh) c ≡ true
+  pub hosted-reads : (p n : ℕ) (c : Claim) → p < tail → effect (log .entry p) ≡ tries n c → alone sh (ids sh) c ≡ true
   unfolding okEntry okReads
   hosted-reads p n c l e = go (log .entry p) (kept p l) e
     where
-      go : (x : Entry) → okEntry sh log p x ≡ true → effect x ≡ tries n c → alone (ids sh) c ≡ true
+      go : (x : Entry) → okEntry sh log p x ≡ true → effect x ≡ tries n c → alone sh (ids sh) c ≡ true
       go (commit m d) k i =
           let r : all (okRead sh p) (d .reads) ≡ true = search ands in
           let s : d ≡ c = cc in
           rw (← s) (reads-within sh p (d .reads) r)
       go (plain us) k i = clash true refl (cc)
       go (numbered m us) k i = clash true refl (cc)
-      go (decision o v) k i = clash true refl (cc)
+      go (decision r) k i = clash true refl (cc)
       go (checkpoint o cs) k i = clash true refl (cc)
       go blank k i = clash true refl (cc)
 
 -- ---- the audit's own play
 
-going-back : (log : Log) (set : List ℕ) (room p : ℕ) (cs : List Cell) (d n : ℕ) → isGoing (play log set room p cs (d + n)) ≡ true → isGoing (play log set room p cs d) ≡ true
+going-back : (sh : Shape) (log : Log) (set : List ℕ) (room p : ℕ) (cs : List Cell) (d n : ℕ) → isGoing (play sh log set room p cs (d + n)) ≡ true → isGoing (play sh log set room p cs d) ≡ true
 unfolding play
-going-back log set room p cs d zero h = rw add-zero at h
-going-back log set room p cs d (suc n) h = going-back log set room p cs d n (go (play log set room p cs (d + n)) (rw add-suc at h))
+going-back sh log set room p cs d zero h = rw add-zero at h
+going-back sh log set room p cs d (suc n) h = going-back sh log set room p cs d n (go (play sh log set room p cs (d + n)) (rw add-suc at h))
   where
-    go : (x : Played) → isGoing (andThen x (step log set room (p + (d + n)))) ≡ true → isGoing x ≡ true
+    go : (x : Played) → isGoing (andThen x (step sh log set room (p + (d + n)))) ≡ true → isGoing x ≡ true
     go (going u) i = refl
     go (waits q u) i = i
     go (lacks q u) i = i
@@ -127,15 +127,15 @@ tail-small log e =
 
 -- a play that goes on to the tail went on to every offset below
 pub goes-back : (sh : Shape) (log : Log) (room d : ℕ) → isGoing (auditPlay sh log room (log .tail)) ≡ true → d ≤ log .tail → isGoing (auditPlay sh log room d) ≡ true
-goes-back sh log room d e l = let s : d + (log .tail - d) ≡ log .tail = omega arith in going-back log (ids sh) room 0 [] d (log .tail - d) (rw s e)
+goes-back sh log room d e l = let s : d + (log .tail - d) ≡ log .tail = omega arith in going-back sh log (ids sh) room 0 [] d (log .tail - d) (rw s e)
 
 -- on a good log, whatever its decisions and checkpoints say
 module _ (sh : Shape) (shape : okShape sh ≡ true) (log : Log) (room : ℕ) (frame : badFrame log ≡ false) (good : lowestBad sh log ≡ none) where
   kept : Kept sh log (log .tail)
   kept = good-kept sh log good
 
-  trusted : (q : ℕ) → q < log .tail → Trust log (ids sh) q
-  trusted q l n c e w b h = clash (alone (ids sh) c) (hosted-reads sh log (log .tail) kept q n c l e) w
+  trusted : (q : ℕ) → q < log .tail → Trust sh log (ids sh) q
+  trusted q l n c e w b h = clash (alone sh (ids sh) c) (hosted-reads sh log (log .tail) kept q n c l e) w
 
   -- the audit's play to d keeps its cells as the run has them, as far as it comes
   pub audit-ok : (d : ℕ) → d ≤ log .tail → Ok sh shape log (ids sh) room d (auditPlay sh log room d)
@@ -164,17 +164,18 @@ module _ (sh : Shape) (shape : okShape sh ≡ true) (log : Log) (room : ℕ) (fr
       go inert e = refl
 
 -- a decision record names a commit record below it
-pub decision-below : (sh : Shape) (log : Log) (d o v : ℕ) → okEntry sh log d (decision o v) ≡ true → o < d
+pub decision-below : (sh : Shape) (log : Log) (d : ℕ) (r : Decision) → okEntry sh log d (decision r) ≡ true → r .offset < d
 unfolding okEntry
-decision-below sh log d o v k = let lt : ltb o d ≡ true = search ands in ltb-true o d lt
+decision-below sh log d r k = let lt : ltb r.offset d ≡ true = search ands in ltb-true (r .offset) d lt
 
 module _ (sh : Shape) (shape : okShape sh ≡ true) (log : Log) (room : ℕ) (sound : Sound sh log room) where
   pub audit-shows : (d : ℕ) → d ≤ log .tail → Shown sh (ids sh) (cellsIn (auditPlay sh log room d)) (run log d .cells)
   audit-shows d l = played-shows sh shape log room (sound .frame) (sound .good) d l (goes-back sh log room d (sound .ended) l)
 
   pub decisions-true : TrueBelow log (log .tail)
-  decisions-true d l o v e =
-      let k : okEntry sh log d (decision o v) ≡ true = rw e at (good-kept sh log (sound .good) d l) in
-      let s : o < log .tail = omega (arith, decision-below sh log d o v k) in
-      let t : asPlayed sh log room d (decision o v) ≡ true = rw e at (sound .told d l) in
-      beq-true (eqb v 1) (commitsThere sh log room o) t ∙ commits-same sh shape log room (sound .frame) (sound .good) o s (goes-back sh log room o (sound .ended) (omega arith))
+  decisions-true d l r e =
+      let o : ℕ = r .offset in
+      let k : okEntry sh log d (decision r) ≡ true = rw e at (good-kept sh log (sound .good) d l) in
+      let s : r .offset < log .tail = omega (arith, decision-below sh log d r k) in
+      let t : asPlayed sh log room d (decision r) ≡ true = rw e at (sound .told d l) in
+      beq-true (eqb r.outcome 1) (commitsThere sh log room o) t ∙ commits-same sh shape log room (sound .frame) (sound .good) o s (goes-back sh log room o (sound .ended) (omega arith))

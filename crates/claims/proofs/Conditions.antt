@@ -13,7 +13,7 @@ use lib.ListN.{length}
 use Rattle.lists.specs.Tests.{ors, neither, clash}
 use Rattle.lists.specs.Sets.{mem, meets, any-set}
 use Rattle.lists.specs.Members.{any-in, in-any, mem-map, map-mem}
-use Rattle.model.specs.Entries.{Write, Entry, plain, numbered, commit, decision, checkpoint, blank, effect, Log, asideUnder, writesOf, commitIn, ifSome, closed, decides, decided, isNone, writtenObjects, commitObjects}
+use Rattle.model.specs.Entries.{Decision, Write, Entry, plain, numbered, commit, decision, checkpoint, blank, effect, Log, asideUnder, writesOf, closesIn, commitIn, ifSome, closed, outcomeAfter, decided, isNone, writtenObjects, commitObjects}
 use Rattle.model.specs.Slot.{logIn, mostSlots, slotSize}
 use Rattle.model.specs.Answers.{slots, badFrame}
 use Rattle.model.specs.Histories.{Lent, inLog}
@@ -59,7 +59,7 @@ module _ (log : Log) (n : ℕ) where
       go true e o = record { at = p; writes = ws; below = omega arith; here = i ∙ ap (λ (x : ℕ). numbered x ws) (eqb-true k n e); one = o }
       go false e o = absurd (List·Memᴰ·not-nil o)
   aside-in p w (commit k c) i m = absurd (List·Memᴰ·not-nil m)
-  aside-in p w (decision o v) i m = absurd (List·Memᴰ·not-nil m)
+  aside-in p w (decision r) i m = absurd (List·Memᴰ·not-nil m)
   aside-in p w (checkpoint o cs) i m = absurd (List·Memᴰ·not-nil m)
   aside-in p w blank i m = absurd (List·Memᴰ·not-nil m)
 
@@ -90,11 +90,11 @@ module _ (log : Log) (n : ℕ) where
 
   -- ---- its commit record
 
-  closing : (p : ℕ) (e : Entry) → log .entry p ≡ e → ifSome (commitIn (effect e)) false (λ c. eqb c.number n) ≡ true → Committed log n (suc p)
+  closing : (p : ℕ) (e : Entry) → log .entry p ≡ e → ifSome (closesIn (effect e)) false (λ m. eqb m n) ≡ true → Committed log n (suc p)
   closing p (plain ws) i h = clash false h refl
   closing p (numbered k ws) i h = clash false h refl
   closing p (commit k c) i h = (p, c, omega arith, i ∙ ap (λ (x : ℕ). commit x c) (eqb-true k n h))
-  closing p (decision o v) i h = clash false h refl
+  closing p (decision r) i h = clash false h refl
   closing p (checkpoint o cs) i h = clash false h refl
   closing p blank i h = clash false h refl
 
@@ -103,7 +103,7 @@ module _ (log : Log) (n : ℕ) where
   closed-words zero h = clash false h refl
   closed-words (suc p) h = go (closed log n p) refl h (λ k. closed-words p k)
     where
-      go : (b : Bool) → closed log n p ≡ b → (b || ifSome (commitIn (effect (log .entry p))) false (λ c. eqb c.number n)) ≡ true
+      go : (b : Bool) → closed log n p ≡ b → (b || ifSome (closesIn (effect (log .entry p))) false (λ m. eqb m n)) ≡ true
           → (closed log n p ≡ true → Committed log n p) → Committed log n (suc p)
       go true e k ih = let (q, c, l, i) = ih e in (q, c, omega arith, i)
       go false e k ih = closing p (log .entry p) refl k
@@ -116,11 +116,11 @@ module _ (log : Log) (n : ℕ) where
       less : (q ≡ p → ⊥) → q < p
       less d = omega arith
 
-      here : q ≡ p → ifSome (commitIn (effect (log .entry p))) false (λ c. eqb c.number n) ≡ true
+      here : q ≡ p → ifSome (closesIn (effect (log .entry p))) false (λ m. eqb m n) ≡ true
       here e = rw (← e, i) (eq-eqb n n refl)
 
       go : (a : Bool) → eqb q p ≡ a → (b : Bool) → closed log n p ≡ b → (q < p → closed log n p ≡ true)
-          → (b || ifSome (commitIn (effect (log .entry p))) false (λ c. eqb c.number n)) ≡ true
+          → (b || ifSome (closesIn (effect (log .entry p))) false (λ m. eqb m n)) ≡ true
       go a e true f ih = refl
       go true e false f ih = here (eqb-true q p e)
       go false e false f ih = clash (closed log n p) (ih (less (eqb-false q p e))) f
@@ -128,30 +128,30 @@ module _ (log : Log) (n : ℕ) where
 -- ---- decision records
 
 module _ (log : Log) (q : ℕ) where
-  deciding : (p v : ℕ) (e : Entry) → log .entry p ≡ e → (decided log q p ≡ some v → Decided log q p) → decides q e (decided log q p) ≡ some v → Decided log q (suc p)
-  deciding p v (plain ws) i ih h = let (d, u, l, k) = ih h in (d, u, omega arith, k)
-  deciding p v (numbered n ws) i ih h = let (d, u, l, k) = ih h in (d, u, omega arith, k)
-  deciding p v (commit n c) i ih h = let (d, u, l, k) = ih h in (d, u, omega arith, k)
-  deciding p v (decision o x) i ih h = go (eqb o q) refl h
+  deciding : (p v : ℕ) (e : Entry) → log .entry p ≡ e → (decided log q p ≡ some v → Decided log q p) → outcomeAfter q e (decided log q p) ≡ some v → Decided log q (suc p)
+  deciding p v (plain ws) i ih h = let (d, r, l, k, o) = ih h in (d, r, omega arith, k, o)
+  deciding p v (numbered n ws) i ih h = let (d, r, l, k, o) = ih h in (d, r, omega arith, k, o)
+  deciding p v (commit n c) i ih h = let (d, r, l, k, o) = ih h in (d, r, omega arith, k, o)
+  deciding p v (decision r) i ih h = go (eqb r.offset q) refl h
     where
-      go : (b : Bool) → eqb o q ≡ b → cond b (some x) (decided log q p) ≡ some v → Decided log q (suc p)
-      go true e j = (p, x, omega arith, i ∙ ap (λ (y : ℕ). decision y x) (eqb-true o q e))
-      go false e j = let (d, u, l, k) = ih j in (d, u, omega arith, k)
-  deciding p v (checkpoint o cs) i ih h = let (d, u, l, k) = ih h in (d, u, omega arith, k)
-  deciding p v blank i ih h = let (d, u, l, k) = ih h in (d, u, omega arith, k)
+      go : (b : Bool) → eqb r.offset q ≡ b → cond b (some (r .outcome)) (decided log q p) ≡ some v → Decided log q (suc p)
+      go true e j = (p, r, omega arith, i, eqb-true (r .offset) q e)
+      go false e j = let (d, r, l, k, o) = ih j in (d, r, omega arith, k, o)
+  deciding p v (checkpoint o cs) i ih h = let (d, r, l, k, o) = ih h in (d, r, omega arith, k, o)
+  deciding p v blank i ih h = let (d, r, l, k, o) = ih h in (d, r, omega arith, k, o)
 
   pub decided-words : (p v : ℕ) → decided log q p ≡ some v → Decided log q p
   unfolding decided
   decided-words zero v h = not-none v (sym h)
   decided-words (suc p) v h = deciding p v (log .entry p) refl (λ k. decided-words p v k) h
 
-  still : (p : ℕ) (e : Entry) → isNone (decides q e (decided log q p)) ≡ true → isNone (decided log q p) ≡ true
+  still : (p : ℕ) (e : Entry) → isNone (outcomeAfter q e (decided log q p)) ≡ true → isNone (decided log q p) ≡ true
   still p (plain ws) h = h
   still p (numbered n ws) h = h
   still p (commit n c) h = h
-  still p (decision o x) h = go (eqb o q) h
+  still p (decision r) h = go (eqb r.offset q) h
     where
-      go : (b : Bool) → isNone (cond b (some x) (decided log q p)) ≡ true → isNone (decided log q p) ≡ true
+      go : (b : Bool) → isNone (cond b (some (r .outcome)) (decided log q p)) ≡ true → isNone (decided log q p) ≡ true
       go true k = clash false k refl
       go false k = k
   still p (checkpoint o cs) h = h
@@ -159,17 +159,17 @@ module _ (log : Log) (q : ℕ) where
 
   pub undecided-words : (p : ℕ) → isNone (decided log q p) ≡ true → Decided log q p → ⊥
   unfolding decided
-  undecided-words zero h (d, v, l, i) = omega arith
-  undecided-words (suc p) h (d, v, l, i) = go (eqb d p) refl (λ k. undecided-words p (still p (log .entry p) h) (d, v, k, i))
+  undecided-words zero h (d, r, l, i, o) = omega arith
+  undecided-words (suc p) h (d, r, l, i, o) = go (eqb d p) refl (λ k. undecided-words p (still p (log .entry p) h) (d, r, k, i, o))
     where
       less : (d ≡ p → ⊥) → d < p
       less k = omega arith
 
-      here : d ≡ p → isNone (decides q (log .entry p) (decided log q p)) ≡ false
-      here e = rw (← e, i, eq-eqb q q refl)
+      here : d ≡ p → isNone (outcomeAfter q (log .entry p) (decided log q p)) ≡ false
+      here e = rw (← e, i, o, eq-eqb q q refl)
 
       go : (b : Bool) → eqb d p ≡ b → (d < p → ⊥) → ⊥
-      go true e ih = clash (isNone (decides q (log .entry p) (decided log q p))) h (here (eqb-true d p e))
+      go true e ih = clash (isNone (outcomeAfter q (log .entry p) (decided log q p))) h (here (eqb-true d p e))
       go false e ih = ih (less (eqb-false d p e))
 
   pub words-undecided : (p : ℕ) → (Decided log q p → ⊥) → isNone (decided log q p) ≡ true

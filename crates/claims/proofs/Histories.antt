@@ -12,7 +12,7 @@ use lib.Dec.{eqb, ltb}
 use lib.ListN.{length, take}
 use Rattle.lists.specs.Tests.{ands, or-l, or-r, neither, clash}
 use Rattle.model.specs.Objects.{Shape, okShape}
-use Rattle.model.specs.Entries.{decision, Log}
+use Rattle.model.specs.Entries.{Decision, decision, Log}
 use Rattle.model.specs.Slot.{logIn, mostSlots, slotSize}
 use Rattle.model.specs.Rules.{okEntry, lowestBad}
 use Rattle.model.specs.Answers.{Answer, done, refused, slots, badFrame}
@@ -33,7 +33,7 @@ record Grew (sh : Shape) (l : Lent) (q : Request) : Type 0 where
   longer : after sh l q .tail ≡ l .tail + 1
   size : length (after sh l q .bytes) ≡ length (l .bytes)
   below : Agree (inLog (after sh l q)) (inLog l) (l .tail)
-  here : inLog (after sh l q) .entry (l .tail) ≡ entryOf q
+  here : inLog (after sh l q) .entry (l .tail) ≡ entryOf (inLog l) q
 
 data Turn (sh : Shape) (l : Lent) (q : Request) : Type 0 where
   kept : isRefused (appendTo sh l q .newTail) ≡ true → after sh l q ≡ l → Turn sh l q
@@ -102,16 +102,16 @@ module _ (sh : Shape) (shape : okShape sh ≡ true) where
 
   -- ---- the run that is fed
 
-  fed-more : (log : Log) (q : Request) (n p : ℕ) (fs : List Fed) → log .entry n ≡ entryOf q → n ≤ p → (suc n ≤ p → runAt p (run log (suc n)) fs ≡ run log p)
+  fed-more : (log before : Log) (q : Request) (n p : ℕ) (fs : List Fed) → log .entry n ≡ entryOf before q → n ≤ p → (suc n ≤ p → runAt p (run log (suc n)) fs ≡ run log p)
       → cond (eqb (run log n .count) p) (run log n) (runAt p (accept (run log n .count + 1) (run log n) q) fs) ≡ run log p
-  fed-more log q n p fs e l h = go (eqb (run log n .count) p) refl
+  fed-more log before q n p fs e l h = go (eqb (run log n .count) p) refl
     where
       past : (run log n .count ≡ p → ⊥) → suc n ≤ p
       past d = let d′ : n ≡ p → ⊥ = λ i. d (count-run log n ∙ i) in omega arith
 
       go : (b : Bool) → eqb (run log n .count) p ≡ b → cond b (run log n) (runAt p (accept (run log n .count + 1) (run log n) q) fs) ≡ run log p
       go true i = ap (run log) (sym (count-run log n) ∙ eqb-true (run log n .count) p i)
-      go false i = ap (λ s. runAt p s fs) (run-next log q n e) ∙ h (past (eqb-false (run log n .count) p i))
+      go false i = ap (λ s. runAt p s fs) (run-next log before q n e) ∙ h (past (eqb-false (run log n .count) p i))
 
   run-fed : (l : Lent) (qs : List Request) (p : ℕ) → l .tail ≤ p → p ≤ grown sh l qs .tail
       → runAt p (run (inLog (grown sh l qs)) (l .tail)) (feed sh l qs) ≡ run (inLog (grown sh l qs)) p
@@ -134,8 +134,8 @@ module _ (sh : Shape) (shape : okShape sh ≡ true) where
           rw e (subst (λ n. runAt p (run whole n) fs ≡ run whole p) t (ih (omega arith)))
       go (grew g) ih =
           let t : after sh l q .tail ≡ suc (l .tail) = g .longer ∙ add-one (l .tail) in
-          let e : whole .entry (l .tail) ≡ entryOf q = grown-longer (after sh l q) qs .agrees (l .tail) (omega arith) ∙ g .here in
-          rw (g .taken) (fed-more whole q (l .tail) p fs e a (λ h. subst (λ n. runAt p (run whole n) fs ≡ run whole p) t (ih (omega arith))))
+          let e : whole .entry (l .tail) ≡ entryOf (inLog l) q = grown-longer (after sh l q) qs .agrees (l .tail) (omega arith) ∙ g .here in
+          rw (g .taken) (fed-more whole (inLog l) q (l .tail) p fs e a (λ h. subst (λ n. runAt p (run whole n) fs ≡ run whole p) t (ih (omega arith))))
 
   -- what the run had at count p, over the entries
   pub run-at : (h : History) (p : ℕ) → p ≤ wholeLog sh h .tail → ranTo sh h p ≡ run (inLog (wholeLog sh h)) p
@@ -163,12 +163,13 @@ pub record Stood (sh : Shape) (whole log : Log) : Type 0 where
 -- its decision records say what the run decided
 true-below : (sh : Shape) (whole log : Log) → lowestBad sh whole ≡ none → log .tail ≤ whole .tail → Agree log whole (log .tail) → TrueBelow whole (whole .tail) → TrueBelow log (log .tail)
 unfolding okEntry
-true-below sh whole log g l a tr d h o v e =
-    let e′ : whole .entry d ≡ decision o v = sym (a d h) ∙ e in
-    let k : okEntry sh whole d (decision o v) ≡ true = rw e′ at (good-kept sh whole g d (omega arith)) in
-    let lt : ltb o d ≡ true = search ands in
-    let below : o < d = ltb-true o d lt in
-    tr d (omega arith) o v e′ ∙ rw (run-agree log whole o (fewer log whole (log .tail) o (omega arith) a), a o (omega arith))
+true-below sh whole log g l a tr d h r e =
+    let o : ℕ = r .offset in
+    let e′ : whole .entry d ≡ decision r = sym (a d h) ∙ e in
+    let k : okEntry sh whole d (decision r) ≡ true = rw e′ at (good-kept sh whole g d (omega arith)) in
+    let lt : ltb r.offset d ≡ true = search ands in
+    let below : r .offset < d = ltb-true (r .offset) d lt in
+    tr d (omega arith) r e′ ∙ rw (run-agree log whole o (fewer log whole (log .tail) o (omega arith) a), a o (omega arith))
 
 pub stood-so : (sh : Shape) → okShape sh ≡ true → (h : History) (room n : ℕ) → Sound sh (inLog (wholeLog sh h)) room → Stood sh (inLog (wholeLog sh h)) (inLog (stood sh h n))
 unfolding logIn

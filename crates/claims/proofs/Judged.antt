@@ -12,7 +12,7 @@ use lib.Dec.{eqb}
 use Rattle.lists.specs.Tests.{ands, clash}
 use Rattle.lists.specs.Sets.{mem, ascending}
 use Rattle.model.specs.Objects.{Shape, ids, isObject, okShape}
-use Rattle.model.specs.Entries.{Saved, Claim, commit, decision, checkpoint, Log}
+use Rattle.model.specs.Entries.{Decision, Saved, Claim, commit, decision, checkpoint, Log}
 use Rattle.model.specs.Rules.{okEntry, lowestBad, savedBefore}
 use Rattle.model.specs.Table.{Holds}
 use Rattle.model.specs.Play.{cellsIn}
@@ -41,12 +41,13 @@ says-stale v cells c = go (eqb v 1) (current cells (c .reads)) refl refl
 
 module _ (sh : Shape) (shape : okShape sh ≡ true) (log : Log) (room : ℕ) (frame : badFrame log ≡ false) (good : lowestBad sh log ≡ none)
     (ended : isGoing (auditPlay sh log room (log .tail)) ≡ true) where
-  pub decision-judged : (d o v n : ℕ) (c : Claim) → d < log .tail → o < d → log .entry o ≡ commit n c
-      → (asPlayed sh log room d (decision o v) ≡ true) ↔ ((v ≡ 1) ↔ (Stale (run log o .cells) c → ⊥))
-  decision-judged d o v n c l b i =
+  pub decision-judged : (d : ℕ) (r : Decision) (n : ℕ) (c : Claim) → d < log .tail → r .offset < d → log .entry (r .offset) ≡ commit n c
+      → (asPlayed sh log room d (decision r) ≡ true) ↔ ((r .outcome ≡ 1) ↔ (Stale (run log (r .offset) .cells) c → ⊥))
+  decision-judged d r n c l b i =
+      let o : ℕ = r .offset in
       let e : commitsThere sh log room o ≡ commitsAt log o = commits-same sh shape log room frame good o (omega arith) (goes-back sh log room o ended (omega arith)) in
       let f : commitsThere sh log room o ≡ current (run log o .cells) (c .reads) = e ∙ rw i in
-      rw f (says-stale v (run log o .cells) c)
+      rw f (says-stale (r .outcome) (run log o .cells) c)
 
   pub checkpoint-judged : (d o : ℕ) (cs : List Saved) → d < log .tail → log .entry d ≡ checkpoint o cs
       → (asPlayed sh log room d (checkpoint o cs) ≡ true) ↔ ((k : ℕ) → savedFor cs k ≡ run log d .cells o k)

@@ -96,26 +96,26 @@ module _ (sh : Shape) (l : Lent) (r : Carried) (stop : ℕ) where
   abbrev from : Played
   from = playFrom sh log (r .replica) (r .table) stop
 
-  left-at : (x : Played) → leftBy (r .replica .hosting) stop (r .table) x .replica .position ≡ standsAt log [] 0 stop x
+  left-at : (x : Played) → leftBy (r .replica .hosting) stop (r .table) x .replica .position ≡ standsAt sh log [] 0 stop x
   left-at (going cs) = refl
   left-at (waits q cs) = refl
   left-at (lacks q cs) = refl
 
-  left-done : (x : Played) → leftBy (r .replica .hosting) (standsAt log [] 0 stop x) (r .table) (going (cellsIn x))
+  left-done : (x : Played) → leftBy (r .replica .hosting) (standsAt sh log [] 0 stop x) (r .table) (going (cellsIn x))
       ≡ doneWith (leftBy (r .replica .hosting) stop (r .table) x .replica) (leftBy (r .replica .hosting) stop (r .table) x .table)
   left-done (going cs) = refl
   left-done (waits q cs) = refl
   left-done (lacks q cs) = refl
 
   module _ (p : Playable sh l r stop) where
-    reached : Reached log (hosts sh r) (capacity (r .table)) (r .replica .position) (cellsOf (r .table) (r .replica .count)) (stop - r .replica .position) (standsAt log [] 0 stop from) (cellsIn from)
+    reached : Reached sh log (hosts sh r) (capacity (r .table)) (r .replica .position) (cellsOf (r .table) (r .replica .count)) (stop - r .replica .position) (standsAt sh log [] 0 stop from) (cellsIn from)
     reached =
         let e : r .replica .position + (stop - r .replica .position) ≡ stop = omega (arith, p .fit .onward) in
-        subst (λ (n : ℕ). Reached log (hosts sh r) (capacity (r .table)) (r .replica .position) (cellsOf (r .table) (r .replica .count)) (stop - r .replica .position) (standsAt log [] 0 n from) (cellsIn from)) e
-        (play-reached log (hosts sh r) (capacity (r .table)) (r .replica .position) (cellsOf (r .table) (r .replica .count)) (stop - r .replica .position))
+        subst (λ (n : ℕ). Reached sh log (hosts sh r) (capacity (r .table)) (r .replica .position) (cellsOf (r .table) (r .replica .count)) (stop - r .replica .position) (standsAt sh log [] 0 n from) (cellsIn from)) e
+        (play-reached sh log (hosts sh r) (capacity (r .table)) (r .replica .position) (cellsOf (r .table) (r .replica .count)) (stop - r .replica .position))
 
     -- a play to that position is one that nothing refuses
-    pub to-there : Playable sh l r (standsAt log [] 0 stop from)
+    pub to-there : Playable sh l r (standsAt sh log [] 0 stop from)
     to-there = record {
       framed = p .framed;
       good = p .good;
@@ -133,7 +133,7 @@ stays-there : (sh : Shape) (l : Lent) (r : Carried) (stop : ℕ) → Playable sh
 stays-there sh l r stop p =
     let out : Left = leftBy (r .replica .hosting) stop (r .table) (from sh l r stop) in
     let same : playOn sh l r stop ≡ out = plays-so sh l r stop p in
-    let at : ℕ = standsAt (inLog l) [] 0 stop (from sh l r stop) in
+    let at : ℕ = standsAt sh (inLog l) [] 0 stop (from sh l r stop) in
     ap (λ (x : Left). playOn sh l r (x .replica .position)) same
     ∙ ap (playOn sh l r) (left-at sh l r stop (from sh l r stop))
     ∙ plays-so sh l r at (to-there sh l r stop p)
@@ -156,11 +156,11 @@ play-leaves sh l r stop = go (playRefusal sh (inLog l) (r .replica) (r .table) s
     go none e =
         let p : Playable sh l r stop = playable-words sh l r stop e in
         record {
-          ends = ((λ x. p), (λ x. rw (plays-so sh l r stop p) (play-ends (inLog l) (hosts sh r) (capacity (r .table)) (r .replica .hosting) (r .replica .position) stop (r .table) (cellsOf (r .table) (r .replica .count)) (p .fit .onward))));
+          ends = ((λ x. p), (λ x. rw (plays-so sh l r stop p) (play-ends sh (inLog l) (hosts sh r) (capacity (r .table)) (r .replica .hosting) (r .replica .position) stop (r .table) (cellsOf (r .table) (r .replica .count)) (p .fit .onward))));
           unchanged = λ h. absurd (h p);
           stopped = stays-there sh l r stop;
-          waits = rw (plays-so sh l r stop p) (play-waits (inLog l) (hosts sh r) (capacity (r .table)) (Playable sh l r stop) p (r .replica .hosting) (r .replica .position) stop (r .table) (cellsOf (r .table) (r .replica .count)) (p .fit .onward));
-          lacks = rw (plays-so sh l r stop p) (left-lacks (inLog l) (hosts sh r) (capacity (r .table)) (r .replica .hosting) (r .replica .position) stop (r .table) (cellsOf (r .table) (r .replica .count)));
+          waits = rw (plays-so sh l r stop p) (play-waits sh (inLog l) (hosts sh r) (capacity (r .table)) (Playable sh l r stop) p (r .replica .hosting) (r .replica .position) stop (r .table) (cellsOf (r .table) (r .replica .count)) (p .fit .onward));
+          lacks = rw (plays-so sh l r stop p) (left-lacks sh (inLog l) (hosts sh r) (capacity (r .table)) (r .replica .hosting) (r .replica .position) stop (r .table) (cellsOf (r .table) (r .replica .count)));
         }
     go (some x) e =
         let same : playOn sh l r stop ≡ record { answer = refused x; replica = r .replica; table = r .table } =

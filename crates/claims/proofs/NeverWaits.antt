@@ -30,7 +30,7 @@ isWaiting (lacks q cs) = false
 
 -- ---- a step that decides alone
 
-module _ (log : Log) (set : List ℕ) (room p : ℕ) (cs : List Cell) (hosts : (n : ℕ) (c : Claim) → effect (log .entry p) ≡ tries n c → alone set c ≡ true) where
+module _ (sh : Shape) (log : Log) (set : List ℕ) (room p : ℕ) (cs : List Cell) (hosts : (n : ℕ) (c : Claim) → effect (log .entry p) ≡ tries n c → alone sh set c ≡ true) where
   make-on : (ws : List Write) → isWaiting (make set room p ws cs) ≡ false
   make-on ws = go (leb (length (apply set (p + 1) ws cs)) room)
     where
@@ -42,29 +42,29 @@ module _ (log : Log) (set : List ℕ) (room p : ℕ) (cs : List Cell) (hosts : (
   finish-on ws true = make-on ws
   finish-on ws false = refl
 
-  act-on : (e : Effect) → effect (log .entry p) ≡ e → isWaiting (act log set room p cs e) ≡ false
+  act-on : (e : Effect) → effect (log .entry p) ≡ e → isWaiting (act sh log set room p cs e) ≡ false
   act-on (writes ws) e = make-on ws
   act-on (aside n ws) e = refl
   act-on (tries n c) e = rw (hosts n c e) (finish-on (writesOf log n p) (commitsOver (lookup cs) c))
   act-on inert e = refl
 
-  step-on : isWaiting (step log set room p cs) ≡ false
+  step-on : isWaiting (step sh log set room p cs) ≡ false
   unfolding step
   step-on = go (meets set (headerObjects log p (log .entry p)))
     where
-      go : (b : Bool) → isWaiting (cond b (act log set room p cs (effect (log .entry p))) (going cs)) ≡ false
+      go : (b : Bool) → isWaiting (cond b (act sh log set room p cs (effect (log .entry p))) (going cs)) ≡ false
       go true = act-on (effect (log .entry p)) refl
       go false = refl
 
-play-on : (log : Log) (set : List ℕ) (room p : ℕ) (cs : List Cell) (m : ℕ)
-    → ((q : ℕ) → q < p + m → (n : ℕ) (c : Claim) → effect (log .entry q) ≡ tries n c → alone set c ≡ true)
-    → isWaiting (play log set room p cs m) ≡ false
+play-on : (sh : Shape) (log : Log) (set : List ℕ) (room p : ℕ) (cs : List Cell) (m : ℕ)
+    → ((q : ℕ) → q < p + m → (n : ℕ) (c : Claim) → effect (log .entry q) ≡ tries n c → alone sh set c ≡ true)
+    → isWaiting (play sh log set room p cs m) ≡ false
 unfolding play
-play-on log set room p cs zero hosts = refl
-play-on log set room p cs (suc m) hosts = go (play log set room p cs m) (play-on log set room p cs m (λ q l. hosts q (omega arith)))
+play-on sh log set room p cs zero hosts = refl
+play-on sh log set room p cs (suc m) hosts = go (play sh log set room p cs m) (play-on sh log set room p cs m (λ q l. hosts q (omega arith)))
   where
-    go : (x : Played) → isWaiting x ≡ false → isWaiting (andThen x (step log set room (p + m))) ≡ false
-    go (going u) e = step-on log set room (p + m) u (hosts (p + m) (omega arith))
+    go : (x : Played) → isWaiting x ≡ false → isWaiting (andThen x (step sh log set room (p + m))) ≡ false
+    go (going u) e = step-on sh log set room (p + m) u (hosts (p + m) (omega arith))
     go (waits q u) e = e
     go (lacks q u) e = e
 
@@ -74,7 +74,7 @@ play-on log set room p cs (suc m) hosts = go (play log set room p cs m) (play-on
 pub no-wait {ℓ} : {P : Type ℓ} (sh : Shape) (log : Log) (room : ℕ) → lowestBad sh log ≡ none → (q : ℕ) (cs : List Cell) → auditPlay sh log room (log .tail) ≡ waits q cs → P
 no-wait sh log room good q cs e =
     clash (isWaiting (auditPlay sh log room (log .tail))) (ap isWaiting e)
-    (play-on log (ids sh) room 0 [] (log .tail) (λ q l n c i. hosted-reads sh log (log .tail) (good-kept sh log good) q n c (omega arith) i))
+    (play-on sh log (ids sh) room 0 [] (log .tail) (λ q l n c i. hosted-reads sh log (log .tail) (good-kept sh log good) q n c (omega arith) i))
 
 abbrev numberIn : Option Refusal → ℕ
 numberIn none = 0

@@ -82,7 +82,7 @@ module _ (sh : Shape) (shape : okShape sh ≡ true) (log : Log) (o : ℕ) (table
   opened-at (plain ws) e r t h = shut r h
   opened-at (numbered n ws) e r t h = shut r h
   opened-at (commit n c) e r t h = shut r h
-  opened-at (decision q v) e r t h = shut r h
+  opened-at (decision d) e r t h = shut r h
   opened-at blank e r t h = shut r h
   opened-at (checkpoint x cs) e (some r) t h = clash true refl (ap isRefused h)
   opened-at (checkpoint x cs) e none t h =

@@ -9,13 +9,14 @@ use native.Mathlib.Omega.{arith}
 use lib.Dec.{leb}
 use lib.ListN.{length}
 use Rattle.lists.specs.Sets.{meets}
+use Rattle.model.specs.Objects.{Shape}
 use Rattle.model.specs.Entries.{Write, Effect, effect, Log, writesOf, headerObjects}
 use Rattle.model.specs.Table.{Cell, apply}
 use Rattle.model.specs.Play.{Played, going, waits, lacks, cellsIn, versionAt, outcome, make, finish, act, step, andThen, play}
 
-module _ (log : Log) (set : List ℕ) (room : ℕ) where
+module _ (sh : Shape) (log : Log) (set : List ℕ) (room : ℕ) where
   abbrev pub go-on : ℕ → List Cell → ℕ → Played
-  go-on p cs n = play log set room p cs n
+  go-on p cs n = play sh log set room p cs n
 
   -- ---- a play of n entries and then of m more
 
@@ -38,9 +39,9 @@ module _ (log : Log) (set : List ℕ) (room : ℕ) where
       let e : n + suc m ≡ suc (n + m) = omega arith in
       let f : p + (n + m) ≡ p + n + m = omega arith in
       ap (go-on p cs) e
-      ∙ ap (λ (x : Played). andThen x (step log set room (p + (n + m)))) (play-on p cs n m)
-      ∙ then-then (go-on p cs n) (λ ds. go-on (p + n) ds m) (step log set room (p + (n + m)))
-      ∙ ap (λ (k : ℕ). andThen (go-on p cs n) (λ ds. andThen (go-on (p + n) ds m) (step log set room k))) f
+      ∙ ap (λ (x : Played). andThen x (step sh log set room (p + (n + m)))) (play-on p cs n m)
+      ∙ then-then (go-on p cs n) (λ ds. go-on (p + n) ds m) (step sh log set room (p + (n + m)))
+      ∙ ap (λ (k : ℕ). andThen (go-on p cs n) (λ ds. andThen (go-on (p + n) ds m) (step sh log set room k))) f
 
   -- ---- where a play stopped
 
@@ -63,7 +64,7 @@ module _ (log : Log) (set : List ℕ) (room : ℕ) where
       go true = tt
       go false = (refl, refl)
 
-  pub step-stays : (p : ℕ) (cs : List Cell) → Stays p cs (step log set room p cs)
+  pub step-stays : (p : ℕ) (cs : List Cell) → Stays p cs (step sh log set room p cs)
   unfolding step
   step-stays p cs = go (meets set (headerObjects log p (log .entry p)))
     where
@@ -72,13 +73,13 @@ module _ (log : Log) (set : List ℕ) (room : ℕ) where
       by ws (some true) = make-stays p ws cs
       by ws (some false) = tt
 
-      on : (e : Effect) → Stays p cs (act log set room p cs e)
+      on : (e : Effect) → Stays p cs (act sh log set room p cs e)
       on (Effect.writes ws) = make-stays p ws cs
       on (Effect.aside n ws) = tt
-      on (Effect.tries n c) = by (writesOf log n p) (outcome log set p cs c)
+      on (Effect.tries n c) = by (writesOf log n p) (outcome sh log set p cs c)
       on Effect.inert = tt
 
-      go : (b : Bool) → Stays p cs (cond b (act log set room p cs (effect (log .entry p))) (going cs))
+      go : (b : Bool) → Stays p cs (cond b (act sh log set room p cs (effect (log .entry p))) (going cs))
       go true = on (effect (log .entry p))
       go false = tt
 
@@ -95,11 +96,11 @@ module _ (log : Log) (set : List ℕ) (room : ℕ) where
       record { from = omega arith; to = omega arith; by = ap (go-on p cs) e }
   play-reached p cs (suc n) = go (go-on p cs n) refl (play-reached p cs n)
     where
-      stopped : (ds : List Cell) → go-on p cs n ≡ going ds → (x : Played) → step log set room (p + n) ds ≡ x → Stays (p + n) ds x
+      stopped : (ds : List Cell) → go-on p cs n ≡ going ds → (x : Played) → step sh log set room (p + n) ds ≡ x → Stays (p + n) ds x
           → Reached p cs (suc n) (standsAt (p + suc n) x) (cellsIn x)
       stopped ds i (going es) e s =
           let k : p + suc n - p ≡ suc n = omega arith in
-          record { from = omega arith; to = omega arith; by = ap (go-on p cs) k ∙ ap (λ (y : Played). andThen y (step log set room (p + n))) i ∙ e }
+          record { from = omega arith; to = omega arith; by = ap (go-on p cs) k ∙ ap (λ (y : Played). andThen y (step sh log set room (p + n))) i ∙ e }
       stopped ds i (waits q es) e (f, g) =
           let k : q - p ≡ n = omega (arith, f) in
           record { from = omega (arith, f); to = omega (arith, f); by = ap (go-on p cs) k ∙ i ∙ ap going (sym g) }
@@ -108,7 +109,7 @@ module _ (log : Log) (set : List ℕ) (room : ℕ) where
           record { from = omega (arith, f); to = omega (arith, f); by = ap (go-on p cs) k ∙ i ∙ ap going (sym g) }
 
       go : (y : Played) → go-on p cs n ≡ y → Reached p cs n (standsAt (p + n) y) (cellsIn y)
-          → Reached p cs (suc n) (standsAt (p + suc n) (andThen y (step log set room (p + n)))) (cellsIn (andThen y (step log set room (p + n))))
-      go (going ds) i r = stopped ds i (step log set room (p + n) ds) refl (step-stays (p + n) ds)
+          → Reached p cs (suc n) (standsAt (p + suc n) (andThen y (step sh log set room (p + n)))) (cellsIn (andThen y (step sh log set room (p + n))))
+      go (going ds) i r = stopped ds i (step sh log set room (p + n) ds) refl (step-stays (p + n) ds)
       go (waits q ds) i r = record { from = r .from; to = omega (arith, r .to); by = r .by }
       go (lacks q ds) i r = record { from = r .from; to = omega (arith, r .to); by = r .by }

@@ -10,14 +10,14 @@ use Prim.Native.Nat.{ℕ, _+_, _*_, _≤_}
 use native.Mathlib.Omega.{arith}
 use lib.ListN.{length, take, drop}
 use borrow.Author.Tests.{lt-leb, lt-ltb}
-use Rattle.lists.specs.Sets.{mem, ascendingSet, mem-set}
+use Rattle.lists.specs.Sets.{mem, ascendingSet, mem-set, ascending-set, set-of-ascending}
 use Rattle.lists.specs.Members.{mem-map, map-mem}
 use Rattle.lists.specs.Rows.{map-values}
 use Rattle.lists.specs.Bytes.{beAt}
 use Rattle.lists.specs.Splice.{splice}
 use Rattle.model.specs.Objects.{Shape, okShape}
 use Rattle.model.specs.Entries.{Write, commit, Log, writesOf, writtenObjects, commitObjects, headerObjects, numberOf}
-use Rattle.model.specs.Slot.{slotSize, markOf, itemBytes, itemCount, slotOf, slot, logIn, headerSize, headersBegin, itemSize, itemsBegin}
+use Rattle.model.specs.Slot.{objectsIn, slotSize, markOf, itemBytes, itemCount, slotOf, slot, logIn, headerSize, headersBegin, itemSize, itemsBegin}
 use Rattle.model.specs.Rules.{lowestBad}
 use Rattle.model.specs.Table.{Cell, cellsOf, savedOf}
 use Rattle.model.specs.Answers.{done, answer}
@@ -26,10 +26,10 @@ use Rattle.model.specs.Append.{Request, update, commits, decides, saves, writes
 use Rattle.model.specs.Histories.{Lent, inLog, tailAfter, appendTo, after, Accepted, grown}
 use Rattle.model.specs.Conditions.{SetAside, Allowed}
 use Rattle.model.specs.Claims.{WroteOneSlot, WritesOneSlot, kindGiven, NumberGiven, ObjectsGiven, ItemsGiven, headerObjectsIn, Back, ReadsBack}
-use Rattle.laws.specs.Headers.{objectsIn}
 use Rattle.laws.proofs.Slots.{Kept, headers-few, number-fits, items-few, slot-mark, slot-count, slot-number, slot-items}
 use Rattle.laws.proofs.Stored.{given-writes, given-reads, update-items}
-use Rattle.laws.proofs.Headers.{headers-small, headers-ascend, objects-read}
+use Rattle.laws.proofs.Decisions.{headers-ascend}
+use Rattle.laws.proofs.Headers.{headers-small, objects-read}
 use Rattle.laws.proofs.Appends.{Accepted as Exit, saved-ascends, accepted, good-kept, passed, wrote}
 use Rattle.laws.proofs.ByKind.{update-mark, update-number, update-objects}
 use Rattle.claims.proofs.Conditions.{writes-aside, aside-writes}
@@ -40,12 +40,12 @@ use Rattle.claims.proofs.Accepts.{accepts-exactly}
 
 -- ---- the kind
 
-kind-marked : (s : List ℕ) (q : Request) → beAt 2 s 0 ≡ markOf (entryOf q) → kindIn s ≡ kindGiven q
+kind-marked : (log : Log) (s : List ℕ) (q : Request) → beAt 2 s 0 ≡ markOf (entryOf log q) → kindIn s ≡ kindGiven q
 unfolding entryOf
-kind-marked s (update n items) e = rw (e ∙ update-mark n (writesGiven items))
-kind-marked s (commits n items) e = rw e
-kind-marked s (decides o v) e = rw e
-kind-marked s (saves r table o) e = rw e
+kind-marked log s (update n items) e = rw (e ∙ update-mark n (writesGiven items))
+kind-marked log s (commits n items) e = rw e
+kind-marked log s (decides o v) e = rw e
+kind-marked log s (saves r table o) e = rw e
 
 -- ---- the header objects
 
@@ -56,7 +56,7 @@ objects-told s = map-values (λ (x : Header). x .object) (λ i. headerAt s (head
 -- ---- what was given
 
 -- the bytes of the entry's items
-items-given : (sh : Shape) (log : Log) (q : Request) → Allowed sh log q → ItemsGiven q (itemBytes (entryOf q))
+items-given : (sh : Shape) (log : Log) (q : Request) → Allowed sh log q → ItemsGiven q (itemBytes (entryOf log q))
 unfolding entryOf itemBytes
 items-given sh log (update n items) a = λ bytes. update-items n (writesGiven items) ∙ given-writes items bytes (omega (arith, a .whole))
 items-given sh log (commits n items) a = λ bytes. given-reads items bytes (omega (arith, a .whole))
@@ -65,13 +65,13 @@ items-given sh log (saves r table o) a =
     let cells : List Cell = cellsOf table (r .count) in
     record { cells = savedOf o cells; stored = refl; ascend = saved-ascends o cells; holds = saved-for o cells }
 
-number-given : (sh : Shape) (log : Log) (q : Request) → Allowed sh log q → NumberGiven log q (numberOf log (log .tail) (entryOf q))
-unfolding entryOf numberOf
-number-given sh log (update n items) a = update-number n (writesGiven items) log (log .tail)
+number-given : (sh : Shape) (log : Log) (q : Request) → Allowed sh log q → NumberGiven log q (numberOf (entryOf log q))
+unfolding entryOf
+number-given sh log (update n items) a = update-number n (writesGiven items)
 number-given sh log (commits n items) a = refl
 number-given sh log (decides o v) a =
     let (n, c, e) = a .commits in
-    (c, e ∙ ap (λ (m : ℕ). commit m c) (rw (lt-ltb o (log .tail) (a .below), e)))
+    (c, e ∙ ap (λ (m : ℕ). commit m c) (sym (ap numberOf e)))
 number-given sh log (saves r table o) a = refl
 
 -- the objects of writes, as a set
@@ -85,13 +85,15 @@ module _ (ws : List Write) (Made : Write → Type 0) (of : (w : Write) → List�
 commit-words : (log : Log) (n p x : ℕ) → (mem x (commitObjects log p n) ≡ true) ↔ ((w : Write) × SetAside log n p w × (w .object ≡ x))
 commit-words log n p = written-words (writesOf log n p) (SetAside log n p) (λ w. (writes-aside log n p w, aside-writes log n p w))
 
-objects-given : (sh : Shape) (log : Log) (q : Request) → Allowed sh log q → ObjectsGiven log q (headerObjects log (log .tail) (entryOf q))
+objects-given : (sh : Shape) (log : Log) (q : Request) → Allowed sh log q → ObjectsGiven log q (headerObjects log (log .tail) (entryOf log q))
 unfolding entryOf headerObjects
 objects-given sh log (update n items) a =
     let ws : List Write = writesGiven items in
     rw (update-objects n ws log (log .tail)) (written-words ws (λ w. List·Memᴰ w ws) (λ w. (λ m. m, λ m. m)))
 objects-given sh log (commits n items) a = commit-words log n (log .tail)
-objects-given sh log (decides o v) a = λ n c e. rw (lt-ltb o (log .tail) (a .below), e) (commit-words log n o)
+objects-given sh log (decides o v) a = λ n c e.
+    let own : headerObjects log o (log .entry o) ≡ commitObjects log o n = ap (headerObjects log o) e in
+    rw (own, set-of-ascending (commitObjects log o n) (ascending-set (writtenObjects (writesOf log n o)))) (commit-words log n o)
 objects-given sh log (saves r table o) a = refl
 
 -- ---- what an accepted append left
@@ -99,7 +101,7 @@ objects-given sh log (saves r table o) a = refl
 module _ (sh : Shape) (shape : okShape sh ≡ true) (l : Lent) (q : Request) (taken : Accepted sh l q) where
   -- the slot of the entry, over the log as it was
   abbrev pub itsSlot : List ℕ
-  itsSlot = slotOf (inLog l) (l .tail) (entryOf q)
+  itsSlot = slotOf (inLog l) (l .tail) (entryOf (inLog l) q)
 
   given : Allowed sh (inLog l) q
   given = accepts-exactly sh shape l q .0 taken .allowed
@@ -120,26 +122,26 @@ module _ (sh : Shape) (shape : okShape sh ≡ true) (l : Lent) (q : Request) (ta
   unfolding logIn
   kept = good-kept sh (inLog l) (exit .was-good)
 
-  few-headers : length (headerObjects (inLog l) (l .tail) (entryOf q)) ≤ 4
-  few-headers = headers-few sh (inLog l) shape (l .tail) (entryOf q) kept (exit .obeyed)
+  few-headers : length (headerObjects (inLog l) (l .tail) (entryOf (inLog l) q)) ≤ 4
+  few-headers = headers-few sh (inLog l) shape (l .tail) (entryOf (inLog l) q) kept (exit .obeyed)
 
-  few-items : itemCount (entryOf q) ≤ 12
-  few-items = items-few sh (inLog l) shape (l .tail) (entryOf q) (exit .obeyed)
+  few-items : itemCount (entryOf (inLog l) q) ≤ 12
+  few-items = items-few sh (inLog l) shape (l .tail) (entryOf (inLog l) q) (exit .obeyed)
 
   -- ---- the slot, as the calls tell it
 
   pub kind-is : infoIn itsSlot .kind ≡ kindGiven q
   unfolding infoIn
-  kind-is = kind-marked itsSlot q (slot-mark (inLog l) (l .tail) (entryOf q))
+  kind-is = kind-marked (inLog l) itsSlot q (slot-mark (inLog l) (l .tail) (entryOf (inLog l) q))
 
-  pub number-is : infoIn itsSlot .number ≡ numberOf (inLog l) (l .tail) (entryOf q)
+  pub number-is : infoIn itsSlot .number ≡ numberOf (entryOf (inLog l) q)
   unfolding infoIn
-  number-is = slot-number (inLog l) (l .tail) (entryOf q) (number-fits sh (inLog l) shape (l .tail) (entryOf q) kept (exit .obeyed))
+  number-is = slot-number (inLog l) (l .tail) (entryOf (inLog l) q) (number-fits sh (inLog l) shape (l .tail) (entryOf (inLog l) q) kept (exit .obeyed))
 
-  pub objects-are : headerObjectsIn (infoIn itsSlot) ≡ headerObjects (inLog l) (l .tail) (entryOf q)
+  pub objects-are : headerObjectsIn (infoIn itsSlot) ≡ headerObjects (inLog l) (l .tail) (entryOf (inLog l) q)
   objects-are =
       objects-told itsSlot
-      ∙ objects-read (inLog l) (l .tail) (entryOf q) few-headers (headers-small sh shape (inLog l) (l .tail) (entryOf q) kept (exit .obeyed))
+      ∙ objects-read (inLog l) (l .tail) (entryOf (inLog l) q) few-headers (headers-small sh shape (inLog l) (l .tail) (entryOf (inLog l) q) kept (exit .obeyed))
 
   -- ---- the calls, some appends later
 
@@ -171,12 +173,12 @@ module _ (sh : Shape) (shape : okShape sh ≡ true) (l : Lent) (q : Request) (ta
     unfolding entryCall
     info-left = ap₂ answer nothing-refuses (ap infoIn written)
 
-    pub items-left : itemList sh (inLog now) (l .tail) ≡ itemBytes (entryOf q)
+    pub items-left : itemList sh (inLog now) (l .tail) ≡ itemBytes (entryOf (inLog l) q)
     unfolding itemList
     items-left =
         ap₂ orEmpty nothing-refuses (ap stretch written)
-        ∙ ap (λ (n : ℕ). take (itemSize * n) (drop itemsBegin itsSlot)) (slot-count (inLog l) (l .tail) (entryOf q) few-items)
-        ∙ slot-items (inLog l) (l .tail) (entryOf q) few-headers
+        ∙ ap (λ (n : ℕ). take (itemSize * n) (drop itemsBegin itsSlot)) (slot-count (inLog l) (l .tail) (entryOf (inLog l) q) few-items)
+        ∙ slot-items (inLog l) (l .tail) (entryOf (inLog l) q) few-headers
 
     read-back : Back sh l q now
     unfolding logIn
@@ -186,7 +188,7 @@ module _ (sh : Shape) (shape : okShape sh ≡ true) (l : Lent) (q : Request) (ta
       kind = kind-is;
       number = rw number-is (number-given sh (inLog l) q given);
       objects = rw objects-are (objects-given sh (inLog l) q given);
-      ascend = rw objects-are (headers-ascend (inLog l) (l .tail) (entryOf q));
+      ascend = rw objects-are (headers-ascend (inLog l) (l .tail) (entryOf (inLog l) q));
       items = rw items-left (items-given sh (inLog l) q given);
     }
 

@@ -78,7 +78,7 @@ module _ (sh : Shape) (shape : okShape sh ≡ true) (whole : Log) (room : ℕ) (
   opened-good o table r (plain ws) e x t i = not-opened sh whole o table r x i
   opened-good o table r (numbered n ws) e x t i = not-opened sh whole o table r x i
   opened-good o table r (commit n c) e x t i = not-opened sh whole o table r x i
-  opened-good o table r (decision q v) e x t i = not-opened sh whole o table r x i
+  opened-good o table r (decision d) e x t i = not-opened sh whole o table r x i
   opened-good o table r blank e x t i = not-opened sh whole o table r x i
   opened-good o table r (checkpoint ob cs) e (some x) t i = not-none r (sym i)
   opened-good o table r (checkpoint ob cs) e none t i =
@@ -129,7 +129,7 @@ module _ (sh : Shape) (shape : okShape sh ≡ true) (whole log : Log) (was : Sto
       let inv : Shown sh (hosts sh r) (cellsOf (r .table) (r .replica .count)) (run log p .cells) =
       rw (run-same p (at f)) (good .inv) in
       rw sum at (play-ok sh shape log (hosts sh r) (capacity (r .table)) p (cellsOf (r .table) (r .replica .count)) inv (stop - p)
-      (omega (arith, to f, on f)) (λ q h. trust log (hosts sh r) q (was .truths))
+      (omega (arith, to f, on f)) (λ q h. trust sh log (hosts sh r) q (was .truths))
       (λ q h. placed sh log (log .tail) (good-kept sh log (was .good)) q (omega (arith, to f, on f))))
 
   -- what a play leaves
@@ -153,7 +153,7 @@ module _ (sh : Shape) (shape : okShape sh ≡ true) (whole log : Log) (was : Sto
       go none e =
           let pass = all-pass tests e in
           let f : Fits log r stop = (refuse-none 10 _ (pass .1 .1 .0), refuse-none 3 _ (pass .1 .1 .1 .0)) in
-          let n = play-fits log (hosts sh r) (capacity (r .table)) (r .replica .position) (cellsOf (r .table) (r .replica .count)) (stop - r .replica .position)
+          let n = play-fits sh log (hosts sh r) (capacity (r .table)) (r .replica .position) (cellsOf (r .table) (r .replica .count)) (stop - r .replica .position)
           (omega (arith, good .fits, length-cells (r .table) (r .replica .count))) in
           left-so f (playFrom sh log (r .replica) (r .table) stop) n (played-ok f)
 

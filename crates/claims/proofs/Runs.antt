@@ -87,22 +87,22 @@ version-same v (some h) = turned (h .version) v
 
 -- ---- fed a request
 
-accept-step : (v : ℕ) (s : Run) (q : Request) → accept v s q ≡ runStep v s (effect (entryOf q))
+accept-step : (log : Log) (v : ℕ) (s : Run) (q : Request) → accept v s q ≡ runStep v s (effect (entryOf log q))
 unfolding accept entryOf
-accept-step v s (update n items) = go (eqb n 0)
+accept-step log v s (update n items) = go (eqb n 0)
   where
     go : (b : Bool) → cond b (record { count = v; cells = madeAll v (writesGiven items) (s .cells); aside = s .aside })
         (record { count = v; cells = s .cells; aside = setAside n (writesGiven items) (s .aside) })
         ≡ runStep v s (effect (cond b (plain (writesGiven items)) (numbered n (writesGiven items))))
     go true = refl
     go false = refl
-accept-step v s (commits n items) = refl
-accept-step v s (decides o x) = refl
-accept-step v s (saves r table o) = refl
+accept-step log v s (commits n items) = refl
+accept-step log v s (decides o x) = refl
+accept-step log v s (saves r table o) = refl
 
-pub run-next : (log : Log) (q : Request) (p : ℕ) → log .entry p ≡ entryOf q → accept (run log p .count + 1) (run log p) q ≡ run log (suc p)
+pub run-next : (log before : Log) (q : Request) (p : ℕ) → log .entry p ≡ entryOf before q → accept (run log p .count + 1) (run log p) q ≡ run log (suc p)
 unfolding run
-run-next log q p e = accept-step _ (run log p) q ∙ ap (λ (n : ℕ). runStep (n + 1) (run log p) (effect (entryOf q))) (count-run log p)
+run-next log before q p e = accept-step before _ (run log p) q ∙ ap (λ (n : ℕ). runStep (n + 1) (run log p) (effect (entryOf before q))) (count-run log p)
     ∙ ap (λ x. runStep (p + 1) (run log p) (effect x)) (sym e)
 
 -- ---- a cell's version tells what it holds

@@ -25,7 +25,7 @@ use Rattle.claims.proofs.ReadBack.{itsSlot, left-bytes, kind-is, number
 same-count : (e e′ : Entry) → itemBytes e ≡ itemBytes e′ → itemCount e ≡ itemCount e′
 same-count e e′ i = omega (arith, length-items e, length-items e′, ap length i)
 
-same-slot : (log : Log) (p : ℕ) (e e′ : Entry) → markOf e ≡ markOf e′ → numberOf log p e ≡ numberOf log p e′ → headerObjects log p e ≡ headerObjects log p e′
+same-slot : (log : Log) (p : ℕ) (e e′ : Entry) → markOf e ≡ markOf e′ → numberOf e ≡ numberOf e′ → headerObjects log p e ≡ headerObjects log p e′
     → itemBytes e ≡ itemBytes e′ → slotOf log p e ≡ slotOf log p e′
 unfolding slotOf
 same-slot log p e e′ m n h i = rw (m, n, h, same-count e e′ i, i)
@@ -35,12 +35,12 @@ same-slot log p e e′ m n h i = rw (m, n, h, same-count e e′ i, i)
 abbrev markOfKind : ℕ → ℕ
 markOfKind k = cond (eqb k 1) markUpdate (cond (eqb k 2) markCommit (cond (eqb k 3) markDecision markCheckpoint))
 
-kind-mark : (q : Request) → markOf (entryOf q) ≡ markOfKind (kindGiven q)
+kind-mark : (log : Log) (q : Request) → markOf (entryOf log q) ≡ markOfKind (kindGiven q)
 unfolding entryOf
-kind-mark (update n items) = update-mark n (writesGiven items)
-kind-mark (commits n items) = refl
-kind-mark (decides o v) = refl
-kind-mark (saves r table o) = refl
+kind-mark log (update n items) = update-mark n (writesGiven items)
+kind-mark log (commits n items) = refl
+kind-mark log (decides o v) = refl
+kind-mark log (saves r table o) = refl
 
 -- ---- what the calls told
 
@@ -49,7 +49,7 @@ told i (done j) = j
 told i (refused r) = i
 
 module _ (sh : Shape) (shape : okShape sh ≡ true) (l : Lent) (q : Request) (taken : Accepted sh l q) where
-  items-told : itemList sh (inLog (after sh l q)) (l .tail) ≡ itemBytes (entryOf q)
+  items-told : itemList sh (inLog (after sh l q)) (l .tail) ≡ itemBytes (entryOf (inLog l) q)
   unfolding grown
   items-told = items-left sh shape l q taken []
 
@@ -58,20 +58,20 @@ module _ (sh : Shape) (shape : okShape sh ≡ true) (l : Lent) (q : Request) (ta
     unfolding grown
     same-info = ap (told i) (sym e ∙ info-left sh shape l q taken [])
 
-    mark-told : markOf (entryOf q) ≡ markOfKind (i .kind)
-    mark-told = kind-mark q ∙ ap markOfKind (sym (kind-is sh shape l q taken) ∙ ap (λ j. j .kind) (sym same-info))
+    mark-told : markOf (entryOf (inLog l) q) ≡ markOfKind (i .kind)
+    mark-told = kind-mark (inLog l) q ∙ ap markOfKind (sym (kind-is sh shape l q taken) ∙ ap (λ j. j .kind) (sym same-info))
 
-    number-told : numberOf (inLog l) (l .tail) (entryOf q) ≡ i .number
+    number-told : numberOf (entryOf (inLog l) q) ≡ i .number
     number-told = sym (number-is sh shape l q taken) ∙ ap (λ j. j .number) (sym same-info)
 
-    objects-told : headerObjects (inLog l) (l .tail) (entryOf q) ≡ headerObjectsIn i
+    objects-told : headerObjects (inLog l) (l .tail) (entryOf (inLog l) q) ≡ headerObjectsIn i
     objects-told = sym (objects-are sh shape l q taken) ∙ ap headerObjectsIn (sym same-info)
 
 pub same-bytes : (sh : Shape) → okShape sh ≡ true → SameBytes sh
 same-bytes sh shape l q q′ i i′ taken taken′ e e′ kind number objects items =
     left-bytes sh shape l q taken
     ∙ ap (splice (l .bytes) (slotSize * l .tail))
-    (same-slot (inLog l) (l .tail) (entryOf q) (entryOf q′)
+    (same-slot (inLog l) (l .tail) (entryOf (inLog l) q) (entryOf (inLog l) q′)
     (mark-told sh shape l q taken i e ∙ ap markOfKind kind ∙ sym (mark-told sh shape l q′ taken′ i′ e′))
     (number-told sh shape l q taken i e ∙ number ∙ sym (number-told sh shape l q′ taken′ i′ e′))
     (objects-told sh shape l q taken i e ∙ objects ∙ sym (objects-told sh shape l q′ taken′ i′ e′))

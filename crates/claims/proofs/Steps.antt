@@ -13,7 +13,7 @@ use lib.ListN.{length}
 use Rattle.lists.specs.Tests.{and-l, and-r, or-l, or-r, clash}
 use Rattle.lists.specs.Sets.{all, mem, meets, within, ascendingSet, any-set}
 use Rattle.model.specs.Objects.{Shape, okShape}
-use Rattle.model.specs.Entries.{Write, Read, Claim, Entry, plain, numbered, commit, decision, checkpoint, blank, Effect, writes, aside, tries, inert, effect, Log, writtenObjects, readObjects, writesOf, decides, decided, headerObjects}
+use Rattle.model.specs.Entries.{Decision, Write, Read, Claim, Entry, plain, numbered, commit, decision, checkpoint, blank, Effect, writes, aside, tries, inert, effect, Log, writtenObjects, readObjects, writesOf, outcomeAfter, decided, headerObjects}
 use Rattle.model.specs.Rules.{okWrite}
 use Rattle.model.specs.Table.{Cell, Holds, lookup, apply, versionIn}
 use Rattle.model.specs.Play.{Played, going, waits, lacks, commitsOver, alone, saysCommit, outcome, make, finish, act, step, andThen, play}
@@ -48,32 +48,32 @@ reads-same sh set (r ∷ rs) cs cells s h =
 
 -- each decision record below the tail says what the run decided
 abbrev pub TrueBelow : Log → ℕ → Type 0
-TrueBelow log tail = (d : ℕ) → d < tail → (o v : ℕ) → log .entry d ≡ decision o v → eqb v 1 ≡ commitsAt log o
+TrueBelow log tail = (d : ℕ) → d < tail → (r : Decision) → log .entry d ≡ decision r → eqb r.outcome 1 ≡ commitsAt log (r .offset)
 
 decided-true : (log : Log) (tail q v : ℕ) → TrueBelow log tail → decided log q tail ≡ some v → eqb v 1 ≡ commitsAt log q
 unfolding decided
 decided-true log zero q v tr h = clash true refl cc
 decided-true log (suc t) q v tr h = go (λ h′. decided-true log t q v (λ d l. tr d (omega arith)) h′) (log .entry t) refl h
   where
-    go : (decided log q t ≡ some v → eqb v 1 ≡ commitsAt log q) → (e : Entry) → log .entry t ≡ e → decides q e (decided log q t) ≡ some v → eqb v 1 ≡ commitsAt log q
+    go : (decided log q t ≡ some v → eqb v 1 ≡ commitsAt log q) → (e : Entry) → log .entry t ≡ e → outcomeAfter q e (decided log q t) ≡ some v → eqb v 1 ≡ commitsAt log q
     go ih (plain ws) e h′ = ih h′
     go ih (numbered n ws) e h′ = ih h′
     go ih (commit n c) e h′ = ih h′
-    go ih (decision o u) e h′ = pick (eqb o q) refl h′
+    go ih (decision r) e h′ = pick (eqb r.offset q) refl h′
       where
-        pick : (x : Bool) → eqb o q ≡ x → cond x (some u) (decided log q t) ≡ some v → eqb v 1 ≡ commitsAt log q
-        pick true x i = let a : u ≡ v = cc in rw (← a, ← eqb-true o q x) (tr t (omega arith) o u e)
+        pick : (x : Bool) → eqb r.offset q ≡ x → cond x (some (r .outcome)) (decided log q t) ≡ some v → eqb v 1 ≡ commitsAt log q
+        pick true x i = let a : r .outcome ≡ v = cc in rw (← a, ← eqb-true r.offset q x) (tr t (omega arith) r e)
         pick false x i = ih i
     go ih (checkpoint o cs) e h′ = ih h′
     go ih blank e h′ = ih h′
 
 -- what a decision record says of the commit record at p is the run's outcome, where the reads are not all hosted
-abbrev pub Trust : Log → List ℕ → ℕ → Type 0
-Trust log set p = (n : ℕ) (c : Claim) → effect (log .entry p) ≡ tries n c → alone set c ≡ false
+abbrev pub Trust : Shape → Log → List ℕ → ℕ → Type 0
+Trust sh log set p = (n : ℕ) (c : Claim) → effect (log .entry p) ≡ tries n c → alone sh set c ≡ false
     → (b : Bool) → saysCommit (decided log p (log .tail)) ≡ some b → b ≡ current (run log p .cells) (c .reads)
 
-pub trust : (log : Log) (set : List ℕ) (p : ℕ) → TrueBelow log (log .tail) → Trust log set p
-trust log set p tr n c e w b h = go (decided log p (log .tail)) refl h
+pub trust : (sh : Shape) (log : Log) (set : List ℕ) (p : ℕ) → TrueBelow log (log .tail) → Trust sh log set p
+trust sh log set p tr n c e w b h = go (decided log p (log .tail)) refl h
   where
     go : (x : Option ℕ) → decided log p (log .tail) ≡ x → saysCommit x ≡ some b → b ≡ current (run log p .cells) (c .reads)
     go none i j = clash true refl cc
@@ -81,11 +81,11 @@ trust log set p tr n c e w b h = go (decided log p (log .tail)) refl h
 
 -- a replica's outcome of the commit record at p, where it has one, is the run's
 pub outcome-true : (sh : Shape) (log : Log) (set : List ℕ) (p : ℕ) (cs : List Cell) (n : ℕ) (c : Claim) (b : Bool)
-    → Trust log set p → Shown sh set cs (run log p .cells) → effect (log .entry p) ≡ tries n c
-    → outcome log set p cs c ≡ some b → b ≡ current (run log p .cells) (c .reads)
-outcome-true sh log set p cs n c b tr s e h = go (alone set c) refl h
+    → Trust sh log set p → Shown sh set cs (run log p .cells) → effect (log .entry p) ≡ tries n c
+    → outcome sh log set p cs c ≡ some b → b ≡ current (run log p .cells) (c .reads)
+outcome-true sh log set p cs n c b tr s e h = go (alone sh set c) refl h
   where
-    go : (a : Bool) → alone set c ≡ a → cond a (some (commitsOver (lookup cs) c)) (saysCommit (decided log p (log .tail))) ≡ some b
+    go : (a : Bool) → alone sh set c ≡ a → cond a (some (commitsOver (lookup cs) c)) (saysCommit (decided log p (log .tail))) ≡ some b
         → b ≡ current (run log p .cells) (c .reads)
     go true a i = let k : commitsOver (lookup cs) c ≡ b = cc in sym k ∙ reads-same sh set (c .reads) cs (run log p .cells) s a
     go false a i = tr n c e a b i
@@ -107,7 +107,7 @@ module _ (sh : Shape) (shape : okShape sh ≡ true) (log : Log) (set : List ℕ)
   Ok n (waits q cs) = (q < n) × Inv q cs
   Ok n (lacks q cs) = (q < n) × Inv q cs × (room < cellsWritten (sh .objects) set (run log (suc q) .cells))
 
-  module _ (p : ℕ) (low : p + 1 < 2 ^ 64) (cs : List Cell) (placed : Placed sh log p) (tr : Trust log set p) (inv : Inv p cs) where
+  module _ (p : ℕ) (low : p + 1 < 2 ^ 64) (cs : List Cell) (placed : Placed sh log p) (tr : Trust sh log set p) (inv : Inv p cs) where
     make-ok : (ws : List Write) → Inv (suc p) (apply set (p + 1) ws cs) → Ok (suc p) (make set room p ws cs)
     make-ok ws j = go (leb (length (apply set (p + 1) ws cs)) room) refl
       where
@@ -141,8 +141,8 @@ module _ (sh : Shape) (shape : okShape sh ≡ true) (log : Log) (set : List ℕ)
     finish-ok n c e (some false) t = commit-after n c e false (t false refl) cs inv
 
     commit-ok : (n : ℕ) (c : Claim) → effect (log .entry p) ≡ tries n c → (m : Bool) → meets set (ascendingSet (writtenObjects (writesOf log n p))) ≡ m
-        → Ok (suc p) (cond m (finish set room p (writesOf log n p) cs (outcome log set p cs c)) (going cs))
-    commit-ok n c e true m = finish-ok n c e (outcome log set p cs c) (λ b h. outcome-true sh log set p cs n c b tr inv e h)
+        → Ok (suc p) (cond m (finish set room p (writesOf log n p) cs (outcome sh log set p cs c)) (going cs))
+    commit-ok n c e true m = finish-ok n c e (outcome sh log set p cs c) (λ b h. outcome-true sh log set p cs n c b tr inv e h)
     commit-ok n c e false m = commit-after n c e (current (run log p .cells) (c .reads)) refl cs (go (current (run log p .cells) (c .reads)))
       where
         go : (b : Bool) → Shown sh set cs (cond b (madeAll (p + 1) (writesOf log n p) (run log p .cells)) (run log p .cells))
@@ -153,26 +153,26 @@ module _ (sh : Shape) (shape : okShape sh ≡ true) (log : Log) (set : List ℕ)
     idle true j = j
     idle false j = j
 
-    entry-ok : (e : Entry) → effect (log .entry p) ≡ effect e → Ok (suc p) (cond (meets set (headerObjects log p e)) (act log set room p cs (effect e)) (going cs))
+    entry-ok : (e : Entry) → effect (log .entry p) ≡ effect e → Ok (suc p) (cond (meets set (headerObjects log p e)) (act sh log set room p cs (effect e)) (going cs))
     unfolding headerObjects
     entry-ok (plain ws) e = plain-ok ws e (meets set (ascendingSet (writtenObjects ws))) refl
     entry-ok (numbered n ws) e = idle (meets set (headerObjects log p (numbered n ws))) (after (aside n ws) e cs inv)
     entry-ok (commit n c) e = commit-ok n c e (meets set (ascendingSet (writtenObjects (writesOf log n p)))) refl
-    entry-ok (decision o v) e = idle (meets set (headerObjects log p (decision o v))) (after inert e cs inv)
+    entry-ok (decision r) e = idle (meets set (headerObjects log p (decision r))) (after inert e cs inv)
     entry-ok (checkpoint o xs) e = idle (meets set (headerObjects log p (checkpoint o xs))) (after inert e cs inv)
     entry-ok blank e = idle (meets set (headerObjects log p blank)) (after inert e cs inv)
 
-    step-ok : Ok (suc p) (step log set room p cs)
+    step-ok : Ok (suc p) (step sh log set room p cs)
     unfolding step
     step-ok = entry-ok (log .entry p) refl
 
-  pub play-ok : (p : ℕ) (cs : List Cell) → Inv p cs → (n : ℕ) → p + n < 2 ^ 64 → ((q : ℕ) → q < p + n → Trust log set q) → ((q : ℕ) → q < p + n → Placed sh log q)
-      → Ok (p + n) (play log set room p cs n)
+  pub play-ok : (p : ℕ) (cs : List Cell) → Inv p cs → (n : ℕ) → p + n < 2 ^ 64 → ((q : ℕ) → q < p + n → Trust sh log set q) → ((q : ℕ) → q < p + n → Placed sh log q)
+      → Ok (p + n) (play sh log set room p cs n)
   unfolding play
   play-ok p cs i zero low tr pl = rw add-zero i
-  play-ok p cs i (suc n) low tr pl = rw add-suc (go (play log set room p cs n) (play-ok p cs i n (omega arith) (λ q h. tr q (omega arith)) (λ q h. pl q (omega arith))))
+  play-ok p cs i (suc n) low tr pl = rw add-suc (go (play sh log set room p cs n) (play-ok p cs i n (omega arith) (λ q h. tr q (omega arith)) (λ q h. pl q (omega arith))))
     where
-      go : (x : Played) → Ok (p + n) x → Ok (suc (p + n)) (andThen x (step log set room (p + n)))
+      go : (x : Played) → Ok (p + n) x → Ok (suc (p + n)) (andThen x (step sh log set room (p + n)))
       go (going u) h = step-ok (p + n) (omega arith) u (pl (p + n) (omega arith)) (tr (p + n) (omega arith)) h
       go (waits q u) h = (omega (arith, h .0), h .1)
       go (lacks q u) h = (omega (arith, h .0), h .1, h .2)

@@ -13,6 +13,7 @@ use lib.ListN.{length}
 use Rattle.lists.specs.Tests.{ands, both, clash}
 use Rattle.lists.specs.Sets.{all, mem, meets}
 use Rattle.lists.specs.Members.{all-false, false-all}
+use Rattle.model.specs.Objects.{Shape}
 use Rattle.model.specs.Entries.{Write, Read, Commit, Entry, plain, numbered, commit, decision, checkpoint, blank, effect, Log, writesOf, commitIn, commitObjects, ifSome, isNone, decided, headerObjects}
 use Rattle.model.specs.Table.{Cell, lookup, apply}
 use Rattle.model.specs.Play.{Played, going, waits, lacks, commitsOver, alone, saysCommit, make, finish, act, step, andThen, play}
@@ -52,19 +53,19 @@ module _ (set : List ℕ) (room p : ℕ) (cs : List Cell) where
   idle-wait false = refl
 
 -- whether an entry at p is blocked
-abbrev blockedBy : Log → List ℕ → ℕ → Option Commit → Bool
-blockedBy log set p x = ifSome x false (λ c. meets set (commitObjects log p (c .number)) && not (alone set (c .claim)) && isNone (decided log p (log .tail)))
+abbrev blockedBy : Shape → Log → List ℕ → ℕ → Option Commit → Bool
+blockedBy sh log set p x = ifSome x false (λ c. meets set (commitObjects log p (c .number)) && not (alone sh set (c .claim)) && isNone (decided log p (log .tail)))
 
-module _ (log : Log) (set : List ℕ) (room : ℕ) where
+module _ (sh : Shape) (log : Log) (set : List ℕ) (room : ℕ) where
   abbrev blocked : ℕ → Bool
-  blocked q = blockedBy log set q (commitIn (effect (log .entry q)))
+  blocked q = blockedBy sh log set q (commitIn (effect (log .entry q)))
 
-  reads-hosted : (xs : List Read) → alone set (record { reads = xs }) ≡ all (λ (x : Read). mem x.object set) xs
+  reads-hosted : (xs : List Read) → alone sh set (record { reads = xs }) ≡ all (λ (x : Read). mem x.object set) xs
   reads-hosted [] = refl
   reads-hosted (x ∷ xs) = ap (λ (b : Bool). mem x.object set && b) (reads-hosted xs)
 
   entry-wait : (p : ℕ) (cs : List Cell) (e : Entry)
-      → StepWait p (blockedBy log set p (commitIn (effect e))) (cond (meets set (headerObjects log p e)) (act log set room p cs (effect e)) (going cs))
+      → StepWait p (blockedBy sh log set p (commitIn (effect e))) (cond (meets set (headerObjects log p e)) (act sh log set room p cs (effect e)) (going cs))
   unfolding headerObjects
   entry-wait p cs (plain ws) = go (meets set (headerObjects log p (plain ws)))
     where
@@ -73,8 +74,8 @@ module _ (log : Log) (set : List ℕ) (room : ℕ) where
       go false = refl
   entry-wait p cs (numbered n ws) = idle-wait set room p cs (meets set (headerObjects log p (numbered n ws)))
   entry-wait p cs (commit n c) =
-      commit-wait set room p cs (writesOf log n p) (meets set (commitObjects log p n)) (alone set c) (commitsOver (lookup cs) c) (decided log p (log .tail))
-  entry-wait p cs (decision o v) = idle-wait set room p cs (meets set (headerObjects log p (decision o v)))
+      commit-wait set room p cs (writesOf log n p) (meets set (commitObjects log p n)) (alone sh set c) (commitsOver (lookup cs) c) (decided log p (log .tail))
+  entry-wait p cs (decision r) = idle-wait set room p cs (meets set (headerObjects log p (decision r)))
   entry-wait p cs (checkpoint o xs) = idle-wait set room p cs (meets set (headerObjects log p (checkpoint o xs)))
   entry-wait p cs blank = idle-wait set room p cs (meets set (headerObjects log p blank))
 
@@ -97,18 +98,18 @@ module _ (log : Log) (set : List ℕ) (room : ℕ) where
       go x l h true e = rw (eqb-true x q e) b
       go x l h false e = c .1 x l (less x h (eqb-false x q e))
 
-  play-wait : (p : ℕ) (cs : List Cell) (n : ℕ) → PlayWait p n (play log set room p cs n)
+  play-wait : (p : ℕ) (cs : List Cell) (n : ℕ) → PlayWait p n (play sh log set room p cs n)
   unfolding play step
   play-wait p cs zero = (omega arith, λ x l h. absurd (omega arith))
-  play-wait p cs (suc n) = go (play log set room p cs n) (play-wait p cs n)
+  play-wait p cs (suc n) = go (play sh log set room p cs n) (play-wait p cs n)
     where
       took : (x : Played) → StepWait (p + n) (blocked (p + n)) x → Clear p (p + n) → PlayWait p (suc n) x
       took (going u) w c = rw add-suc (one-more p (p + n) c w)
       took (waits q u) w c = (omega (arith, w .0), rw (w .0) (w .1), rw (w .0) c)
       took (lacks q u) w c = (omega (arith, w .0), rw (w .0) (w .1), rw (w .0) c)
 
-      go : (x : Played) → PlayWait p n x → PlayWait p (suc n) (andThen x (step log set room (p + n)))
-      go (going u) c = took (step log set room (p + n) u) (entry-wait (p + n) u (log .entry (p + n))) c
+      go : (x : Played) → PlayWait p n x → PlayWait p (suc n) (andThen x (step sh log set room (p + n)))
+      go (going u) c = took (step sh log set room (p + n) u) (entry-wait (p + n) u (log .entry (p + n))) c
       go (waits q u) c = (omega (arith, c .0), c .1, c .2)
       go (lacks q u) c = (omega (arith, c .0), c .1, c .2)
 
@@ -117,10 +118,10 @@ module _ (log : Log) (set : List ℕ) (room : ℕ) where
   blocked-words : (q : ℕ) → blocked q ≡ true → Blocked log set q
   blocked-words q h = go (log .entry q) refl h
     where
-      go : (e : Entry) → log .entry q ≡ e → blockedBy log set q (commitIn (effect e)) ≡ true → Blocked log set q
+      go : (e : Entry) → log .entry q ≡ e → blockedBy sh log set q (commitIn (effect e)) ≡ true → Blocked log set q
       go (commit n c) i k =
-          let far : not (alone set c) ≡ true = search ands in
-          let (x, m, o) = all-false (λ (x : Read). mem x.object set) (c .reads) (sym (reads-hosted (c .reads)) ∙ not-true (alone set c) far) in
+          let far : not (alone sh set c) ≡ true = search ands in
+          let (x, m, o) = all-false (λ (x : Read). mem x.object set) (c .reads) (sym (reads-hosted (c .reads)) ∙ not-true (alone sh set c) far) in
           record {
             number = n;
             claim = c;
@@ -131,20 +132,20 @@ module _ (log : Log) (set : List ℕ) (room : ℕ) where
           }
       go (plain ws) i k = clash false k refl
       go (numbered n ws) i k = clash false k refl
-      go (decision o v) i k = clash false k refl
+      go (decision r) i k = clash false k refl
       go (checkpoint o cs) i k = clash false k refl
       go blank i k = clash false k refl
 
   words-blocked : (q : ℕ) → Blocked log set q → blocked q ≡ true
   words-blocked q b =
       let (x, m, o) = b .outside in
-      let far : alone set (b .claim) ≡ false = reads-hosted (b .claim .reads) ∙ false-all (λ (x : Read). mem x.object set) x (b .claim .reads) m o in
+      let far : alone sh set (b .claim) ≡ false = reads-hosted (b .claim .reads) ∙ false-all (λ (x : Read). mem x.object set) x (b .claim .reads) m o in
       rw (b .here) (both (both (words-concerns log set (b .number) q (b .concerns)) (ap not far)) (words-undecided log q (log .tail) (b .undecided)))
 
   -- what a play to a stop leaves is as demanded
   pub play-waits : (fit : Type 0) → fit → (hosting p stop : ℕ) (table : List ℕ) (cs : List Cell) → p ≤ stop
-      → Waiting fit log set p stop (leftBy hosting stop table (play log set room p cs (stop - p)))
-  play-waits fit f hosting p stop table cs l = go (play log set room p cs (stop - p)) (play-wait p cs (stop - p))
+      → Waiting fit log set p stop (leftBy hosting stop table (play sh log set room p cs (stop - p)))
+  play-waits fit f hosting p stop table cs l = go (play sh log set room p cs (stop - p)) (play-wait p cs (stop - p))
     where
       clear : (q : ℕ) → blocked q ≡ false → Blocked log set q → ⊥
       clear q e b = clash (blocked q) (words-blocked q b) e
@@ -170,8 +171,8 @@ module _ (log : Log) (set : List ℕ) (room : ℕ) where
           thirteen e = absurd (let n : 13 ≡ 12 = ap code e in omega arith)
 
   -- and it ends
-  pub play-ends : (hosting p stop : ℕ) (table : List ℕ) (cs : List Cell) → p ≤ stop → Ended stop (leftBy hosting stop table (play log set room p cs (stop - p)))
-  play-ends hosting p stop table cs l = go (play log set room p cs (stop - p)) (play-wait p cs (stop - p))
+  pub play-ends : (hosting p stop : ℕ) (table : List ℕ) (cs : List Cell) → p ≤ stop → Ended stop (leftBy hosting stop table (play sh log set room p cs (stop - p)))
+  play-ends hosting p stop table cs l = go (play sh log set room p cs (stop - p)) (play-wait p cs (stop - p))
     where
       go : (x : Played) → PlayWait p (stop - p) x → Ended stop (leftBy hosting stop table x)
       go (going u) w = there refl refl
