@@ -11,7 +11,7 @@ use Rattle.lists.specs.Bytes.{beAt, beAt-same}
 use Rattle.lists.specs.Rows.{joined, values-same}
 use Rattle.model.specs.Objects.{Shape, everything}
 use Rattle.model.specs.Entries.{Log}
-use Rattle.model.specs.Slot.{slotOf, logIn, logOf, slotSize}
+use Rattle.model.specs.Slot.{slotOf, logIn, logOf}
 use Rattle.model.specs.Table.{Cell, cellAt, cellBytes, cellsOf, tableWith, capacity, cellSize}
 use Rattle.model.specs.Play.{Played, going, waits, lacks}
 use Rattle.model.specs.Answers.{Refusal, Answer, firstOf, frameAndEntries}
@@ -22,31 +22,31 @@ use Rattle.laws.proofs.Tables.{length-stored}
 
 -- ---- the log
 
-pub log-same : (a b : List ℕ) (tail : ℕ) → length a ≡ length b → take (slotSize * tail) a ≡ take (slotSize * tail) b → logOf a tail ≡ logOf b tail
-log-same a b tail e f = ap₂ (λ (n : ℕ) (l : List ℕ). logIn n tail l) e f
+pub log-same : (sh : Shape) (a b : List ℕ) (tail : ℕ) → length a ≡ length b → take (sh .slotSize * tail) a ≡ take (sh .slotSize * tail) b → logOf sh a tail ≡ logOf sh b tail
+log-same sh a b tail e f = ap₂ (λ (n : ℕ) (l : List ℕ). logIn sh n tail l) e f
 
 -- two slices that answer alike at a tail, whatever else a call is given
 pub record Alike (sh : Shape) (a b : List ℕ) (tail : ℕ) : Type 0 where
-  pub checks : check sh (logOf a tail) ≡ check sh (logOf b tail)
-  pub owes : owed sh (logOf a tail) ≡ owed sh (logOf b tail)
-  pub tells : (o : ℕ) → entryCall sh (logOf a tail) o ≡ entryCall sh (logOf b tail) o
-  pub items : (o : ℕ) → itemList sh (logOf a tail) o ≡ itemList sh (logOf b tail) o
-  pub nexts : (x from : ℕ) → streamNext sh (logOf a tail) x from ≡ streamNext sh (logOf b tail) x from
-  pub lists : (x : ℕ) (list : List ℕ) → streamList sh (logOf a tail) x list ≡ streamList sh (logOf b tail) x list
-  pub opens : (o : ℕ) (table : List ℕ) → openAt sh (logOf a tail) o table ≡ openAt sh (logOf b tail) o table
-  pub plays : (r : Replica) (table : List ℕ) (stop : ℕ) → playCall sh (logOf a tail) r table stop ≡ playCall sh (logOf b tail) r table stop
-  pub audits : (table : List ℕ) → audit sh (logOf a tail) table ≡ audit sh (logOf b tail) table
+  pub checks : check sh (logOf sh a tail) ≡ check sh (logOf sh b tail)
+  pub owes : owed sh (logOf sh a tail) ≡ owed sh (logOf sh b tail)
+  pub tells : (o : ℕ) → entryCall sh (logOf sh a tail) o ≡ entryCall sh (logOf sh b tail) o
+  pub items : (o : ℕ) → itemList sh (logOf sh a tail) o ≡ itemList sh (logOf sh b tail) o
+  pub nexts : (x from : ℕ) → streamNext sh (logOf sh a tail) x from ≡ streamNext sh (logOf sh b tail) x from
+  pub lists : (x : ℕ) (list : List ℕ) → streamList sh (logOf sh a tail) x list ≡ streamList sh (logOf sh b tail) x list
+  pub opens : (o : ℕ) (table : List ℕ) → openAt sh (logOf sh a tail) o table ≡ openAt sh (logOf sh b tail) o table
+  pub plays : (r : Replica) (table : List ℕ) (stop : ℕ) → playCall sh (logOf sh a tail) r table stop ≡ playCall sh (logOf sh b tail) r table stop
+  pub audits : (table : List ℕ) → audit sh (logOf sh a tail) table ≡ audit sh (logOf sh b tail) table
   pub appends : (q : Request) → append sh a tail q .newTail ≡ append sh b tail q .newTail
 
 -- an append's answer is its refusal's
-answered : (a b s s′ : List ℕ) (tail : ℕ) (x : Option Refusal) → appendGiven a tail s x .newTail ≡ appendGiven b tail s′ x .newTail
-answered a b s s′ tail none = refl
-answered a b s s′ tail (some r) = refl
+answered : (sh : Shape) (a b s s′ : List ℕ) (tail : ℕ) (x : Option Refusal) → appendGiven sh a tail s x .newTail ≡ appendGiven sh b tail s′ x .newTail
+answered sh a b s s′ tail none = refl
+answered sh a b s s′ tail (some r) = refl
 
-pub depends-log : (sh : Shape) (a b : List ℕ) (tail : ℕ) → length a ≡ length b → take (slotSize * tail) a ≡ take (slotSize * tail) b → Alike sh a b tail
+pub depends-log : (sh : Shape) (a b : List ℕ) (tail : ℕ) → length a ≡ length b → take (sh .slotSize * tail) a ≡ take (sh .slotSize * tail) b → Alike sh a b tail
 unfolding append logIn
 depends-log sh a b tail e f =
-    let same : logOf a tail ≡ logOf b tail = log-same a b tail e f in
+    let same : logOf sh a tail ≡ logOf sh b tail = log-same sh a b tail e f in
     record {
       checks = ap (check sh) same;
       owes = ap (owed sh) same;
@@ -57,8 +57,8 @@ depends-log sh a b tail e f =
       opens = λ o table. ap (λ l. openAt sh l o table) same;
       plays = λ r table stop. ap (λ l. playCall sh l r table stop) same;
       audits = λ table. ap (λ l. audit sh l table) same;
-      appends = λ q. answered a b _ (slotOf (logOf b tail) tail (entryOf (logOf b tail) q)) tail (appendRefusal sh (logOf a tail) q)
-          ∙ ap (λ l. appendGiven b tail (slotOf (logOf b tail) tail (entryOf (logOf b tail) q)) (appendRefusal sh l q) .newTail) same;
+      appends = λ q. answered sh a b _ (slotOf sh (logOf sh b tail) tail (entryOf (logOf sh b tail) q)) tail (appendRefusal sh (logOf sh a tail) q)
+          ∙ ap (λ l. appendGiven sh b tail (slotOf sh (logOf sh b tail) tail (entryOf (logOf sh b tail) q)) (appendRefusal sh l q) .newTail) same;
     }
 
 -- ---- the table

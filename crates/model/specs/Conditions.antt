@@ -11,7 +11,7 @@ use lib.ListN.{length}
 use Rattle.lists.specs.Sets.{mem}
 use Rattle.model.specs.Objects.{Shape, isCell, hosted}
 use Rattle.model.specs.Entries.{Write, Read, Held, Saved, Claim, Decision, plain, numbered, commit, decision, Log, writesOf}
-use Rattle.model.specs.Slot.{slotSize, mostSlots, itemSize}
+use Rattle.model.specs.Slot.{mostSlots, itemSize}
 use Rattle.model.specs.Rules.{goodAt}
 use Rattle.model.specs.Table.{Holds, cellsOf, capacity, versionIn, lookup}
 use Rattle.model.specs.Answers.{done}
@@ -22,9 +22,9 @@ use Rattle.model.specs.Histories.{Lent, inLog, Carried}
 -- ---- the log
 
 -- the lent bytes are whole slots, not too many, and the tail is not above them
-pub record Framed (l : Lent) : Type 0 where
+pub record Framed (sh : Shape) (l : Lent) : Type 0 where
   pub slots : ℕ
-  pub whole : length (l .bytes) ≡ slotSize * slots
+  pub whole : length (l .bytes) ≡ sh .slotSize * slots
   pub few : slots ≤ mostSlots
   pub used : l .tail ≤ slots
 
@@ -79,8 +79,8 @@ pub record Fit (tail : ℕ) (r : Carried) (stop : ℕ) : Type 0 where
 
 -- nothing refuses the play
 pub record Playable (sh : Shape) (l : Lent) (r : Carried) (stop : ℕ) : Type 0 where
-  pub framed : Framed l
-  pub good : AllGood sh (inLog l)
+  pub framed : Framed sh l
+  pub good : AllGood sh (inLog sh l)
   pub fit : Fit (l .tail) r stop
 
 -- how a play ends that nothing refused: at its stop, or before it, waiting or without room
@@ -161,10 +161,10 @@ Allowed sh log (saves r table o) = CheckpointAllowed sh log r table o
 
 -- no refusal's condition stops the append (13.3)
 pub record Unstopped (sh : Shape) (l : Lent) (q : Request) : Type 0 where
-  pub framed : Framed l
-  pub good : AllGood sh (inLog l)
-  pub free : slotSize * (l .tail + 1) ≤ length (l .bytes)
-  pub allowed : Allowed sh (inLog l) q
+  pub framed : Framed sh l
+  pub good : AllGood sh (inLog sh l)
+  pub free : sh .slotSize * (l .tail + 1) ≤ length (l .bytes)
+  pub allowed : Allowed sh (inLog sh l) q
 
 -- ---- checkpoints
 

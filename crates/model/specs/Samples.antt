@@ -38,8 +38,10 @@ abbrev pub small : Shape
 small = record {
   objects = obj 1 aMap 2 true ∷ obj 2 aMap 9 false ∷ obj 3 aMap 2 true ∷ obj 4 aMap 2 true ∷ obj 5 aMap 2 false
       ∷ obj 6 aRegister 0 true ∷ obj 7 aRegister 0 false ∷ obj 8 aRegister 0 false ∷ [];
+  pointers = 4;
   headers = 4;
   items = 12;
+  slotSize = 256;
 }
 
 -- a play on the log as it stood after so many appends, to a stop; its answer, and the position that it leaves
@@ -96,9 +98,9 @@ givenItems log (saves r table o) = itemBytes (entryOf log (saves r table o))
 
 abbrev pub backHolds : Lent → Request → Lent → Bool
 backHolds l q new =
-    let log = inLog new in
-    isInfo (entryCall small log (l .tail)) (kindGiven q) (numberOf (entryOf (inLog l) q)) (headerObjects (inLog l) (l .tail) (entryOf (inLog l) q))
-    && eqList (itemList small log (l .tail)) (givenItems (inLog l) q)
+    let log = inLog small new in
+    isInfo (entryCall small log (l .tail)) (kindGiven q) (numberOf (entryOf (inLog small l) q)) (headerObjects (inLog small l) (l .tail) (entryOf (inLog small l) q))
+    && eqList (itemList small log (l .tail)) (givenItems (inLog small l) q)
 
 abbrev pub backsHold : Lent → List Request → Bool
 backsHold l [] = true
@@ -160,7 +162,7 @@ nextHolds ran log r stop out =
 unfoldable pub turnsHold : History → (ℕ → Run) → Log → Carried → List Turn → Bool
 turnsHold h ran whole r [] = cellsHold ran whole r
 turnsHold h ran whole r (t ∷ ts) =
-    let log = inLog (stood small h (t .stoodAfter)) in
+    let log = inLog small (stood small h (t .stoodAfter)) in
     let out = playCall small log (r .replica) (r .table) (t .stop) in
     eqb (code (out .answer)) (t .answers) && eqb (out .replica .position) (t .position)
     && cellsHold ran whole r && nextHolds ran log r (t .stop) out
@@ -172,13 +174,13 @@ showsHold m h whole (some r) = let fed = feed small (empty (h .bytes)) (h .reque
 
 -- the history of a sample, in five slots of junk
 abbrev pub historyOf : Sample → History
-historyOf m = record { bytes = replicate (256 * 5) 7; requests = m .requests }
+historyOf m = record { bytes = replicate (small .slotSize * 5) 7; requests = m .requests }
 
 unfoldable pub sampleHolds : Sample → Bool
 unfolding turnsHold
 sampleHolds m =
     let h = historyOf m in
-    let log = inLog (wholeLog small h) in
+    let log = inLog small (wholeLog small h) in
     let a = audit small log (replicate 120 7) in
     eqb (log .tail) (m .tail)
     && isNone (lowestBad small log)

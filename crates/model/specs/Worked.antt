@@ -14,7 +14,7 @@ use Rattle.lists.specs.Equal.{eqList}
 use Rattle.lists.specs.Sets.{all}
 use Rattle.model.specs.Objects.{depots, everything, isObject, isCell, isMarked, hosted}
 use Rattle.model.specs.Entries.{checkpoint, Log, writesOf, closed, decided, headerObjects, numberOf, earlier}
-use Rattle.model.specs.Slot.{writeBytes, writeAt, readBytes, readAt, savedBytes, savedAt, itemBytes, itemCount, headerOf, slotOf, decode, slot, logIn, objectsIn}
+use Rattle.model.specs.Slot.{headersBegin, headerSize, writeBytes, writeAt, readBytes, readAt, savedBytes, savedAt, itemBytes, itemCount, headerOf, slotOf, decode, slot, logIn, objectsIn}
 use Rattle.model.specs.Rules.{okEntry, lowest, lowestBad, okWrite, okWrites, okRead, okReads, okSaved, narrow, goodAt, repeats}
 use Rattle.model.specs.Table.{Cell, cellSize, cellAt, cellBytes, cellsOf, tableWith, apply, savedOf, cellOf, lookup, store}
 use Rattle.model.specs.Play.{play, commitsOver, step}
@@ -36,7 +36,7 @@ read o k v = readBytes (record { object = o; key = k; version = v })
 
 -- the log that these appends leave in n slots of any bytes (here 7)
 abbrev pub logBy : ℕ → List Request → Lent
-logBy n qs = grown depots (empty (replicate (256 * n) 7)) qs
+logBy n qs = grown depots (empty (replicate (depots .slotSize * n) 7)) qs
 
 -- the bench log (16.1), with the read version of entry 3
 abbrev pub bench : ℕ → List Request
@@ -100,7 +100,7 @@ abbrev pub lentTable : ℕ → List ℕ
 lentTable n = replicate n 7
 
 abbrev pub playIn : Lent → List ℕ → Answer Replica → Left
-playIn l table (done r) = playCall depots (inLog l) r table (l .tail)
+playIn l table (done r) = playCall depots (inLog depots l) r table (l .tail)
 playIn l table (refused r) = unopened r table
 
 -- a fresh replica of this set played to the tail over a table of n bytes
@@ -114,13 +114,13 @@ leftIs set n x e = eqb (code (x .answer)) (e .answers) && sameOffset (tells (x .
     && eqList (x .table) (joined cellBytes (e .cells) ++ lentTable (n - cellSize * length (e .cells)))
 
 unfoldable pub rowHolds : Row → Bool
-rowHolds (header qs o h) = let l = logBy 6 qs in eqList (take 12 (drop 8 (slot (l .bytes) o))) h
-rowHolds (far p h) = eqList (headerOf sparse p 2) h
+rowHolds (header qs o h) = let l = logBy 6 qs in eqList (take (headerSize depots) (drop headersBegin (slot depots (l .bytes) o))) h
+rowHolds (far p h) = eqList (headerOf depots sparse p 2) h
 rowHolds (printed qs n os cs) =
     let l = logBy 6 qs in
-    let r = report depots (inLog l) (lentTable n) in
-    leftIs (everything depots) n (audit depots (inLog l) (lentTable n)) (ends (length qs) cs) && sameOutcomes (r .commits) os && sameCells (r .cells) cs
-rowHolds (audited qs n e) = let l = logBy 6 qs in leftIs (everything depots) n (audit depots (inLog l) (lentTable n)) e
+    let r = report depots (inLog depots l) (lentTable n) in
+    leftIs (everything depots) n (audit depots (inLog depots l) (lentTable n)) (ends (length qs) cs) && sameOutcomes (r .commits) os && sameCells (r .cells) cs
+rowHolds (audited qs n e) = let l = logBy 6 qs in leftIs (everything depots) n (audit depots (inLog depots l) (lentTable n)) e
 rowHolds (player qs set n e) = let l = logBy 6 qs in leftIs set n (freshTo l set n) e
 
 abbrev pub line : ℕ → ℕ → Bool → Outcome

@@ -14,7 +14,7 @@ use Rattle.lists.specs.Equal.{eqList}
 use Rattle.lists.specs.Sets.{all}
 use Rattle.model.specs.Objects.{isObject, isCell, isMarked, hosted}
 use Rattle.model.specs.Entries.{writesOf, closed, decided, headerObjects, numberOf, earlier}
-use Rattle.model.specs.Slot.{writeBytes, writeAt, readBytes, readAt, savedBytes, savedAt, itemBytes, itemCount, headerOf, slotOf, decode, slot, logIn, slotSize, objectsIn}
+use Rattle.model.specs.Slot.{writeBytes, writeAt, readBytes, readAt, savedBytes, savedAt, itemBytes, itemCount, headerOf, slotOf, decode, slot, logIn, objectsIn}
 use Rattle.model.specs.Rules.{okEntry, lowest, lowestBad, okWrite, okWrites, okRead, okReads, okSaved, narrow, goodAt, repeats}
 use Rattle.model.specs.Table.{cellAt, cellBytes, cellsOf, tableWith, apply, savedOf, lookup, store}
 use Rattle.model.specs.Play.{play, commitsOver, step}
@@ -25,7 +25,7 @@ use Rattle.model.specs.Replica.{openFresh, openAt, playCall, readCell, audit}
 use Rattle.model.specs.Run.{accept, runAt}
 use Rattle.model.specs.Histories.{empty, grown, feed, fresh, atCheckpoint}
 use Rattle.model.specs.Worked.{put, remove, read, cell}
-use Rattle.model.specs.Samples.{Sample, sampleHolds, backsHold, to, but, five, one, all8, only2, only5, save, both, across, passes, fails, owing}
+use Rattle.model.specs.Samples.{small, Sample, sampleHolds, backsHold, to, but, five, one, all8, only2, only5, save, both, across, passes, fails, owing}
 
 abbrev bench : List Request
 bench = update 0 (put 2 7 43) ∷ update 9 (put 2 7 42) ∷ update 10 (put 2 7 40) ∷ commits 9 (read 2 7 1) ∷ commits 10 (read 2 7 1) ∷ []
@@ -82,7 +82,7 @@ refusing =
 abbrev pub written : List Request
 written = update 0 (put 2 7 4 ++ remove 5 1) ∷ update 9 both ∷ commits 9 (read 1 1 0 ++ read 2 7 1) ∷ decides 2 1 ∷ save 4 (cell 2 7 (some 1) 3 ∷ []) ∷ []
 
-pub written-back : backsHold (empty (replicate (slotSize * 5) 7)) written ≡ true
+pub written-back : backsHold (empty (replicate (small .slotSize * 5) 7)) written ≡ true
 unfolding beAt bytesOf splice values joined first firstFrom picks eqList writesOf closed decided headerObjects earlier writeBytes writeAt readBytes readAt savedBytes savedAt itemBytes itemCount headerOf slotOf decode slot logIn okEntry lowest lowestBad cellAt cellBytes cellsOf tableWith apply savedOf play commitsOver owed entryCall itemList infoIn entryOf ownTests append openFresh openAt playCall readCell audit accept runAt grown feed isObject isCell isMarked hosted okWrite okWrites okRead okReads okSaved narrow goodAt lookup store step badFrame objectsIn repeats
 written-back = refl
 

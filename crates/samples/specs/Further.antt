@@ -49,15 +49,15 @@ audits-left = refl
 -- 1 and 2 leave the scratch table as it was. 2 tells the lowest bad entry: a slot of junk at 5; with the first slot cut off, the entry at 0,
 -- whose distance leads below the log.
 pub audits-refused : (let l = logBy 6 (bench 1) in
-    leftIs 0 48 (audit depots (logOf (l .bytes) 6) (lentTable 48)) (record { answers = 2; told = some 5; position = 0; cells = [] })
-    && leftIs 0 48 (audit depots (logOf (drop 256 (l .bytes)) 5) (lentTable 48)) (record { answers = 2; told = some 0; position = 0; cells = [] })
-    && leftIs 0 48 (audit depots (logOf (l .bytes) 7) (lentTable 48)) (stops 1 0 [])) ≡ true
+    leftIs 0 48 (audit depots (logOf depots (l .bytes) 6) (lentTable 48)) (record { answers = 2; told = some 5; position = 0; cells = [] })
+    && leftIs 0 48 (audit depots (logOf depots (drop (depots .slotSize) (l .bytes)) 5) (lentTable 48)) (record { answers = 2; told = some 0; position = 0; cells = [] })
+    && leftIs 0 48 (audit depots (logOf depots (l .bytes) 7) (lentTable 48)) (stops 1 0 [])) ≡ true
 unfolding beAt bytesOf splice values joined first firstFrom eqList writesOf closed decided headerObjects earlier writeBytes writeAt readBytes readAt savedBytes savedAt itemBytes itemCount headerOf slotOf decode slot logIn okEntry lowest lowestBad cellAt cellBytes cellsOf tableWith apply savedOf play commitsOver entryOf ownTests append openFresh openAt playCall readCell audit outcomes report grown isObject isCell isMarked hosted okWrite okWrites okRead okReads okSaved narrow goodAt lookup store step badFrame objectsIn repeats
 audits-refused = refl
 
 -- the program prints cells ascending by object, then key
 pub cells-printed : (let l = logBy 6 (update 0 (put 5 1 1 ++ put 2 8 2 ++ put 2 7 3) ∷ []) in
-    sameCells (report depots (inLog l) (lentTable 72) .cells) (cell 2 7 (some 3) 1 ∷ cell 2 8 (some 2) 1 ∷ cell 5 1 (some 1) 1 ∷ [])) ≡ true
+    sameCells (report depots (inLog depots l) (lentTable 72) .cells) (cell 2 7 (some 3) 1 ∷ cell 2 8 (some 2) 1 ∷ cell 5 1 (some 1) 1 ∷ [])) ≡ true
 unfolding beAt bytesOf splice values joined first firstFrom eqList writesOf closed decided headerObjects earlier writeBytes writeAt readBytes readAt savedBytes savedAt itemBytes itemCount headerOf slotOf decode slot logIn okEntry lowest lowestBad cellAt cellBytes cellsOf tableWith apply savedOf play commitsOver entryOf ownTests append openFresh openAt playCall readCell audit outcomes report grown isObject isCell isMarked hosted okWrite okWrites okRead okReads okSaved narrow goodAt lookup store step badFrame objectsIn repeats
 cells-printed = refl
 
@@ -67,12 +67,12 @@ abbrev saving : List Request
 saving = update 0 (put 2 8 5 ++ put 2 7 4) ∷ update 0 (remove 2 7) ∷ save 2 (cell 2 8 (some 5) 1 ∷ cell 2 7 none 2 ∷ []) ∷ update 0 (put 5 1 1 ++ put 2 7 6) ∷ []
 
 pub openings-left : (let l = logBy 6 saving in
-    let o = openAt depots (inLog l) 2 (lentTable 50) in
+    let o = openAt depots (inLog depots l) 2 (lentTable 50) in
     leftIs 2 50 o (ends 3 (cell 2 7 none 2 ∷ cell 2 8 (some 5) 1 ∷ []))
-    && leftIs 2 50 (playCall depots (inLog l) (o .replica) (o .table) 4) (ends 4 (cell 2 7 (some 6) 4 ∷ cell 2 8 (some 5) 1 ∷ []))
-    && leftIs 0 47 (openAt depots (inLog l) 2 (lentTable 47)) (stops 13 0 [])
-    && leftIs 0 50 (openAt depots (inLog l) 1 (lentTable 50)) (stops 3 0 [])
-    && leftIs 0 50 (openAt depots (inLog l) 4 (lentTable 50)) (stops 3 0 [])) ≡ true
+    && leftIs 2 50 (playCall depots (inLog depots l) (o .replica) (o .table) 4) (ends 4 (cell 2 7 (some 6) 4 ∷ cell 2 8 (some 5) 1 ∷ []))
+    && leftIs 0 47 (openAt depots (inLog depots l) 2 (lentTable 47)) (stops 13 0 [])
+    && leftIs 0 50 (openAt depots (inLog depots l) 1 (lentTable 50)) (stops 3 0 [])
+    && leftIs 0 50 (openAt depots (inLog depots l) 4 (lentTable 50)) (stops 3 0 [])) ≡ true
 unfolding beAt bytesOf splice values joined first firstFrom eqList writesOf closed decided headerObjects earlier writeBytes writeAt readBytes readAt savedBytes savedAt itemBytes itemCount headerOf slotOf decode slot logIn okEntry lowest lowestBad cellAt cellBytes cellsOf tableWith apply savedOf play commitsOver entryOf ownTests append openFresh openAt playCall readCell audit outcomes report grown isObject isCell isMarked hosted okWrite okWrites okRead okReads okSaved narrow goodAt lookup store step badFrame objectsIn repeats
 openings-left = refl
 

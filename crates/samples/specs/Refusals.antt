@@ -19,7 +19,7 @@ use Rattle.lists.specs.First.{first, firstFrom}
 use Rattle.lists.specs.Equal.{eqList}
 use Rattle.model.specs.Objects.{isObject, isCell, isMarked, hosted}
 use Rattle.model.specs.Entries.{writesOf, closed, decided, headerObjects, numberOf, earlier}
-use Rattle.model.specs.Slot.{writeBytes, writeAt, readBytes, readAt, savedBytes, savedAt, itemBytes, itemCount, headerOf, slotOf, decode, slot, logIn, slotSize, objectsIn}
+use Rattle.model.specs.Slot.{writeBytes, writeAt, readBytes, readAt, savedBytes, savedAt, itemBytes, itemCount, headerOf, slotOf, decode, slot, logIn, objectsIn}
 use Rattle.model.specs.Rules.{okEntry, lowest, lowestBad, okWrite, okWrites, okRead, okReads, okSaved, narrow, goodAt, repeats}
 use Rattle.model.specs.Table.{cellAt, cellBytes, cellsOf, tableWith, apply, savedOf, lookup, store}
 use Rattle.model.specs.Play.{play, commitsOver, step}
@@ -35,7 +35,7 @@ abbrev base : List Request
 base = update 0 (put 2 7 4) ∷ update 9 (put 2 7 1 ++ put 5 1 2) ∷ commits 9 [] ∷ decides 2 1 ∷ []
 
 abbrev four : ℕ → Lent
-four slots = grown small (empty (replicate (slotSize * slots) 7)) base
+four slots = grown small (empty (replicate (small .slotSize * slots) 7)) base
 
 -- the numbers that a list of appends gets, each on the same log; 0 for done
 abbrev codes : Lent → List Request → List ℕ
@@ -79,7 +79,7 @@ isNext x c r = eqb (code (x .found)) c && eqb (x .reader) r
 abbrev isListed : Listed → ℕ → List ℕ → Bool
 isListed x c l = eqb (code (x .count)) c && eqList (x .list) l
 
-pub streams-told : (let log = inLog (four 5) in
+pub streams-told : (let log = inLog small (four 5) in
     isNext (streamNext small log 5 0) 0 2 && isNext (streamNext small log 5 4) 0 4 && isNext (streamNext small log 5 5) 3 5 && isNext (streamNext small log 9 0) 3 0
     && isListed (streamList small log 5 (replicate 5 7)) 0 (1 ∷ 2 ∷ 3 ∷ 7 ∷ 7 ∷ []) && isListed (streamList small log 2 (replicate 3 7)) 13 (7 ∷ 7 ∷ 7 ∷ [])) ≡ true
 unfolding streamNext streamList offsetsOf beAt bytesOf splice values joined first firstFrom picks eqList writesOf closed decided headerObjects earlier writeBytes writeAt readBytes readAt savedBytes savedAt itemBytes itemCount headerOf slotOf decode slot logIn okEntry lowest lowestBad cellAt cellBytes cellsOf tableWith apply savedOf play commitsOver owed entryCall itemList infoIn entryOf ownTests append openFresh openAt playCall readCell audit accept runAt grown feed isObject isCell isMarked hosted okWrite okWrites okRead okReads okSaved narrow goodAt lookup store step badFrame objectsIn repeats
