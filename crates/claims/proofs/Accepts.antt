@@ -12,9 +12,9 @@ use lib.Dec.{eqb, leb, ltb}
 use lib.ListN.{length}
 use Rattle.lists.specs.Tests.{ands, ors, both, neither, or-case, clash}
 use Rattle.lists.specs.Sets.{all, isEmpty, mem}
-use Rattle.model.specs.Objects.{Shape, isObject, okShape, hosted}
+use Rattle.model.specs.Objects.{Shape, isObject, hosted}
 use Rattle.model.specs.Entries.{Write, Claim, Commit, commit, Log, commitAt, writesOf, closed, decided, isNone}
-use Rattle.model.specs.Slot.{slotSize, writeAt, readAt, logIn}
+use Rattle.model.specs.Slot.{writeAt, readAt, logIn, okShape}
 use Rattle.model.specs.Rules.{fits, okWrites, narrow, okReads, okSaved, okOutcome, okNumber, lowestBad}
 use Rattle.model.specs.Table.{Cell, cellsOf, capacity}
 use Rattle.model.specs.Answers.{Refusal, refuse, refuseAt, firstOf, slots, badFrame, frameAndEntries}
@@ -23,6 +23,7 @@ use Rattle.model.specs.Histories.{Lent, inLog, isRefused, Accepted}
 use Rattle.model.specs.Conditions.{SetAside, Committed, UpdateAllowed, CommitAllowed, DecisionAllowed, CheckpointAllowed, Allowed, Unstopped}
 use Rattle.model.specs.Claims.{AcceptsExactly}
 use Rattle.laws.proofs.Directory.{hosted-listed}
+use Rattle.laws.proofs.Sizes.{layout, slots-fit, slots-free}
 use Rattle.laws.proofs.Refusals.{AllPass, all-pass, refuse-none, refuseAt-none, not-none, good-below, below-good}
 use Rattle.laws.proofs.Appends.{has-room, passed, wrote}
 use Rattle.laws.proofs.Decisions.{commit-entry}
@@ -72,11 +73,11 @@ module _ (sh : Shape) (log : Log) where
             (not-false _ (numbered-if n _ (refuse-none 5 _ (t .1 .1 .1 .0)) d));
       }
 
-  words-update : (n : ℕ) (items : List ℕ) → UpdateAllowed sh log n items → log .tail < slots log → AllPass (ownTests sh log (update n items))
+  words-update : (n : ℕ) (items : List ℕ) → UpdateAllowed sh log n items → log .tail < slots sh log → AllPass (ownTests sh log (update n items))
   unfolding ownTests
   words-update n items a free = (
     passing 3 _ given,
-    (passing 5 _ thin, (passing 4 _ still-open, (passing 5 _ together, (passing 9 _ (lt-leb (slots log) (log .tail) free), tt)))),
+    (passing 5 _ thin, (passing 4 _ still-open, (passing 5 _ together, (passing 9 _ (lt-leb (slots sh log) (log .tail) free), tt)))),
   )
     where
       given : (notWhole items || not (okWrites sh (writesGiven items)) || not (fits 4 n)) ≡ false
@@ -124,11 +125,11 @@ module _ (sh : Shape) (log : Log) where
         updated = (w, writes-aside log n (log .tail) w m);
       }
 
-  words-commit : (n : ℕ) (items : List ℕ) → CommitAllowed sh log n items → log .tail < slots log → AllPass (ownTests sh log (commits n items))
+  words-commit : (n : ℕ) (items : List ℕ) → CommitAllowed sh log n items → log .tail < slots sh log → AllPass (ownTests sh log (commits n items))
   unfolding ownTests
   words-commit n items a free = (
     passing 3 _ given,
-    (passing 4 _ (words-open log n (a .uncommitted)), (passing 6 _ updated, (passing 9 _ (lt-leb (slots log) (log .tail) free), tt))),
+    (passing 4 _ (words-open log n (a .uncommitted)), (passing 6 _ updated, (passing 9 _ (lt-leb (slots sh log) (log .tail) free), tt))),
   )
     where
       some : n ≡ 0 → ⊥
@@ -168,11 +169,11 @@ module _ (sh : Shape) (log : Log) where
         undecided = undecided-words log o (log .tail) (not-false _ (refuse-none 8 _ (t .1 .1 .0)));
       }
 
-  words-decision : (o v : ℕ) → DecisionAllowed log o v → log .tail < slots log → AllPass (ownTests sh log (decides o v))
+  words-decision : (o v : ℕ) → DecisionAllowed log o v → log .tail < slots sh log → AllPass (ownTests sh log (decides o v))
   unfolding ownTests
   words-decision o v a free = (
     passing 3 _ (neither (lt-leb (log .tail) o (a .below)) (ap not (words-outcome v (a .outcome)))),
-    (passing 7 _ a-commit, (passing 8 _ undecided, (passing 9 _ (lt-leb (slots log) (log .tail) free), tt))),
+    (passing 7 _ a-commit, (passing 8 _ undecided, (passing 9 _ (lt-leb (slots sh log) (log .tail) free), tt))),
   )
     where
       a-commit : isNone (commitAt log o) ≡ false
@@ -197,11 +198,11 @@ module _ (sh : Shape) (log : Log) where
         few = keys-words (sh .items) o (cellsOf table (r .count)) (ltb-false (sh .items) _ (refuse-none 13 _ (t .1 .1 .1 .0)));
       }
 
-  words-checkpoint : (r : Replica) (table : List ℕ) (o : ℕ) → CheckpointAllowed sh log r table o → log .tail < slots log → AllPass (ownTests sh log (saves r table o))
+  words-checkpoint : (r : Replica) (table : List ℕ) (o : ℕ) → CheckpointAllowed sh log r table o → log .tail < slots sh log → AllPass (ownTests sh log (saves r table o))
   unfolding ownTests isObject hosted
   words-checkpoint r table o a free = (
     passing 10 _ record-ok,
-    (passing 3 _ (ap not given), (passing 14 _ behind, (passing 13 _ few, (passing 9 _ (lt-leb (slots log) (log .tail) free), tt)))),
+    (passing 3 _ (ap not given), (passing 14 _ behind, (passing 13 _ few, (passing 9 _ (lt-leb (slots sh log) (log .tail) free), tt)))),
   )
     where
       cells : List Cell
@@ -229,32 +230,32 @@ module _ (sh : Shape) (log : Log) where
   own-words (decides o v) t = decision-words o v t
   own-words (saves r table o) t = checkpoint-words r table o t
 
-  words-own : (q : Request) → Allowed sh log q → log .tail < slots log → AllPass (ownTests sh log q)
+  words-own : (q : Request) → Allowed sh log q → log .tail < slots sh log → AllPass (ownTests sh log q)
   words-own (update n items) a free = words-update n items a free
   words-own (commits n items) a free = words-commit n items a free
   words-own (decides o v) a free = words-decision o v a free
   words-own (saves r table o) a free = words-checkpoint r table o a free
 
-module _ (sh : Shape) (l : Lent) (q : Request) where
+module _ (sh : Shape) (shape : okShape sh ≡ true) (l : Lent) (q : Request) where
   accepted-words : Accepted sh l q → Unstopped sh l q
   unfolding logIn
   accepted-words taken =
-      let t = all-pass (frameAndEntries sh (inLog l) ++ ownTests sh (inLog l) q) (passed sh (l .bytes) (l .tail) q taken) in
+      let t = all-pass (frameAndEntries sh (inLog sh l) ++ ownTests sh (inLog sh l) q) (passed sh (l .bytes) (l .tail) q taken) in
       record {
-        framed = frame-words l (refuse-none 1 (badFrame (inLog l)) (t .0));
-        good = good-below sh (inLog l) (refuseAt-none 2 (lowestBad sh (inLog l)) (t .1 .0));
-        free = omega (arith, has-room sh (inLog l) q (t .1 .1));
-        allowed = own-words sh (inLog l) q (t .1 .1);
+        framed = frame-words sh l (refuse-none 1 (badFrame sh (inLog sh l)) (t .0));
+        good = good-below sh (inLog sh l) (refuseAt-none 2 (lowestBad sh (inLog sh l)) (t .1 .0));
+        free = slots-fit (sh .slotSize) (l .tail) (length (l .bytes)) (has-room sh (inLog sh l) q (t .1 .1));
+        allowed = own-words sh (inLog sh l) q (t .1 .1);
       }
 
   words-accepted : Unstopped sh l q → Accepted sh l q
   unfolding logIn
   words-accepted u =
-      let good : lowestBad sh (inLog l) ≡ none = below-good sh (inLog l) (u .good) in
-      let free : l .tail < length (l .bytes) / slotSize = omega (arith, u .free) in
-      let t : appendRefusal sh (inLog l) q ≡ none = pass-all (frameAndEntries sh (inLog l) ++ ownTests sh (inLog l) q)
-      (passing 1 (badFrame (inLog l)) (words-frame l (u .framed)), (ap (refuseAt 2) good, words-own sh (inLog l) q (u .allowed) free)) in
+      let good : lowestBad sh (inLog sh l) ≡ none = below-good sh (inLog sh l) (u .good) in
+      let free : l .tail < length (l .bytes) / sh .slotSize = slots-free (sh .slotSize) (l .tail) (length (l .bytes)) (omega (arith, layout sh shape .room)) (u .free) in
+      let t : appendRefusal sh (inLog sh l) q ≡ none = pass-all (frameAndEntries sh (inLog sh l) ++ ownTests sh (inLog sh l) q)
+      (passing 1 (badFrame sh (inLog sh l)) (words-frame sh shape l (u .framed)), (ap (refuseAt 2) good, words-own sh (inLog sh l) q (u .allowed) free)) in
       ap (λ a. isRefused (a .newTail)) (wrote sh (l .bytes) (l .tail) q t)
 
 pub accepts-exactly : (sh : Shape) → okShape sh ≡ true → AcceptsExactly sh
-accepts-exactly sh shape l q = (accepted-words sh l q, words-accepted sh l q)
+accepts-exactly sh shape l q = (accepted-words sh shape l q, words-accepted sh shape l q)

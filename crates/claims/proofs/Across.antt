@@ -12,9 +12,9 @@ use lib.Dec.{eqb, leb}
 use lib.ListN.{length}
 use Rattle.lists.specs.Tests.{and-l, and-r, clash}
 use Rattle.lists.specs.Sets.{all, mem, meets}
-use Rattle.model.specs.Objects.{Shape, okShape}
-use Rattle.model.specs.Entries.{Write, Read, Held, Claim, contentOf, commit, Log, writesOf, headerObjects, commitObjects}
-use Rattle.model.specs.Slot.{logIn, mostSlots}
+use Rattle.model.specs.Objects.{Shape}
+use Rattle.model.specs.Entries.{Write, Read, Claim, contentOf, commit, Log, writesOf, headerObjects, commitObjects}
+use Rattle.model.specs.Slot.{logIn, mostSlots, okShape}
 use Rattle.model.specs.Rules.{okWrite}
 use Rattle.model.specs.Table.{Cell, Holds, cellsOf, tableWith, capacity, lookup, store, apply}
 use Rattle.model.specs.Play.{Played, going, lacks, commitsOver, alone, make, finish, step, play}
@@ -110,7 +110,7 @@ reads-within sh set (x ∷ xs) h = rw (h x (List·Memᴰ·head refl)) (reads-wit
 
 module _ (sh : Shape) (shape : okShape sh ≡ true) (l : Lent) (r : Carried) (n : ℕ) (c : Claim) (given : Alone sh l r n c) where
   abbrev log : Log
-  log = inLog l
+  log = inLog sh l
 
   abbrev p : ℕ
   p = r .replica .position
@@ -133,11 +133,11 @@ module _ (sh : Shape) (shape : okShape sh ≡ true) (l : Lent) (r : Carried) (n 
 
   small-tail : l .tail ≤ mostSlots
   unfolding logIn
-  small-tail = tail-small log (words-frame l (given .playable .framed))
+  small-tail = tail-small sh log (words-frame sh shape l (given .playable .framed))
 
   crossed : playOn sh l r (p + 1) ≡ leftBy (r .replica .hosting) (p + 1) (r .table) (finish (hosts sh r) room p ws cs (some (commitsOver (lookup cs) c)))
   crossed =
-      plays-so sh l r (p + 1) (given .playable)
+      plays-so sh shape l r (p + 1) (given .playable)
       ∙ ap (leftBy (r .replica .hosting) (p + 1) (r .table))
       (decides-alone sh log (hosts sh r) room p n c (given .here) (words-concerns log (hosts sh r) n p (given .concerns))
       (reads-within sh (hosts sh r) (c .reads) (given .hostsReads)) cs)

@@ -14,9 +14,9 @@ use lib.ListN.{length}
 use Rattle.lists.specs.Tests.{ands, clash}
 use Rattle.lists.specs.First.{first, first-below, first-at}
 use Rattle.lists.specs.Sets.{mem}
-use Rattle.model.specs.Objects.{Object, Shape, ids, isCell, hostedBy, hosted, everyBit, everything, okShape}
+use Rattle.model.specs.Objects.{Object, Shape, ids, isCell, hostedBy, hosted, everyBit, everything}
 use Rattle.model.specs.Entries.{Decision, Entry, plain, numbered, commit, decision, checkpoint, blank, effect, Log, commitIn, ifSome, isNone}
-use Rattle.model.specs.Slot.{logIn}
+use Rattle.model.specs.Slot.{logIn, okShape}
 use Rattle.model.specs.Rules.{okEntry, lowest, lowestBad}
 use Rattle.model.specs.Table.{Cell, Holds, capacity, tableWith}
 use Rattle.model.specs.Play.{Played, going, waits, lacks, cellsIn}
@@ -91,8 +91,8 @@ told (done a) = 0
 told (refused r) = ifSome (r .offset) 0 (λ o. o)
 
 data Verdict (sh : Shape) (h : History) (scratch : List ℕ) (out : Left) : Type 0 where
-  passed : out .answer ≡ done tt → HasRoom sh (wholeLog sh h) (ranTo sh h) scratch → ((d : ℕ) → d < wholeLog sh h .tail → Agrees (wholeLog sh h) (ranTo sh h) d) → Verdict sh h scratch out
-  found : (d : ℕ) → out .answer ≡ tellingOf 11 d → HasRoom sh (wholeLog sh h) (ranTo sh h) scratch → d < wholeLog sh h .tail → (Agrees (wholeLog sh h) (ranTo sh h) d → ⊥) → ((e : ℕ) → e < d → Agrees (wholeLog sh h) (ranTo sh h) e)
+  passed : out .answer ≡ done tt → HasRoom sh (wholeLog sh h) (ranTo sh h) scratch → ((d : ℕ) → d < wholeLog sh h .tail → Agrees sh (wholeLog sh h) (ranTo sh h) d) → Verdict sh h scratch out
+  found : (d : ℕ) → out .answer ≡ tellingOf 11 d → HasRoom sh (wholeLog sh h) (ranTo sh h) scratch → d < wholeLog sh h .tail → (Agrees sh (wholeLog sh h) (ranTo sh h) d → ⊥) → ((e : ℕ) → e < d → Agrees sh (wholeLog sh h) (ranTo sh h) e)
       → Verdict sh h scratch out
   full : (q : ℕ) → out .answer ≡ tellingOf 13 q → q < wholeLog sh h .tail → writtenBy sh (ranTo sh h) q ≤ capacity scratch → capacity scratch < writtenBy sh (ranTo sh h) (q + 1)
       → Verdict sh h scratch out
@@ -106,7 +106,7 @@ record Standing (sh : Shape) (h : History) (scratch : List ℕ) (out : Left) : T
 
 module _ (sh : Shape) (shape : okShape sh ≡ true) (h : History) (scratch : List ℕ) where
   abbrev log : Log
-  log = inLog (wholeLog sh h)
+  log = inLog sh (wholeLog sh h)
 
   abbrev room : ℕ
   room = capacity scratch
@@ -129,13 +129,13 @@ module _ (sh : Shape) (shape : okShape sh ≡ true) (h : History) (scratch : Lis
     clashing : {P : Type 0} (n d : ℕ) → out .answer ≡ tellingOf n d → out .answer ≡ done tt → P
     clashing n d a e = clash true refl (ap isRefused (sym a ∙ e))
 
-    passes : Verdict sh h scratch out → (out .answer ≡ done tt) ↔ (HasRoom sh (wholeLog sh h) (ranTo sh h) scratch × ((d : ℕ) → d < wholeLog sh h .tail → Agrees (wholeLog sh h) (ranTo sh h) d))
+    passes : Verdict sh h scratch out → (out .answer ≡ done tt) ↔ (HasRoom sh (wholeLog sh h) (ranTo sh h) scratch × ((d : ℕ) → d < wholeLog sh h .tail → Agrees sh (wholeLog sh h) (ranTo sh h) d))
     passes (passed a r g) = (λ e. (r, g), λ x. a)
     passes (found d a r l n b) = (λ e. clashing 11 d a e, λ x. absurd (n (x .1 d l)))
     passes (full q a l w m) = (λ e. clashing 13 q a e, λ x. no-room q l m (x .0))
 
     -- two lowest ones are one
-    lowest-one : (d e : ℕ) → (Agrees (wholeLog sh h) (ranTo sh h) d → ⊥) → ((x : ℕ) → x < d → Agrees (wholeLog sh h) (ranTo sh h) x) → (Agrees (wholeLog sh h) (ranTo sh h) e → ⊥) → ((x : ℕ) → x < e → Agrees (wholeLog sh h) (ranTo sh h) x) → d ≡ e
+    lowest-one : (d e : ℕ) → (Agrees sh (wholeLog sh h) (ranTo sh h) d → ⊥) → ((x : ℕ) → x < d → Agrees sh (wholeLog sh h) (ranTo sh h) x) → (Agrees sh (wholeLog sh h) (ranTo sh h) e → ⊥) → ((x : ℕ) → x < e → Agrees sh (wholeLog sh h) (ranTo sh h) x) → d ≡ e
     lowest-one d e n b m c = go (ltb d e) (ltb e d) refl refl
       where
         go : (x y : Bool) → ltb d e ≡ x → ltb e d ≡ y → d ≡ e
@@ -144,10 +144,10 @@ module _ (sh : Shape) (shape : okShape sh ≡ true) (h : History) (scratch : Lis
         go false false p q = omega (arith, ltb-false d e p, ltb-false e d q)
 
     tells : Verdict sh h scratch out → (d : ℕ) → (out .answer ≡ tellingOf 11 d)
-        ↔ (HasRoom sh (wholeLog sh h) (ranTo sh h) scratch × (d < wholeLog sh h .tail) × (Agrees (wholeLog sh h) (ranTo sh h) d → ⊥) × ((e : ℕ) → e < d → Agrees (wholeLog sh h) (ranTo sh h) e))
+        ↔ (HasRoom sh (wholeLog sh h) (ranTo sh h) scratch × (d < wholeLog sh h .tail) × (Agrees sh (wholeLog sh h) (ranTo sh h) d → ⊥) × ((e : ℕ) → e < d → Agrees sh (wholeLog sh h) (ranTo sh h) e))
     tells (passed a r g) d = (λ e. clashing 11 d e a, λ x. absurd (x .2 (g d (x .1))))
     tells (found c a r l n b) d = (
-      λ e. let i : c ≡ d = ap told (sym a ∙ e) in subst (λ (y : ℕ). HasRoom sh (wholeLog sh h) (ranTo sh h) scratch × (y < wholeLog sh h .tail) × (Agrees (wholeLog sh h) (ranTo sh h) y → ⊥) × ((e : ℕ) → e < y → Agrees (wholeLog sh h) (ranTo sh h) e)) i (r, l, n, b),
+      λ e. let i : c ≡ d = ap told (sym a ∙ e) in subst (λ (y : ℕ). HasRoom sh (wholeLog sh h) (ranTo sh h) scratch × (y < wholeLog sh h .tail) × (Agrees sh (wholeLog sh h) (ranTo sh h) y → ⊥) × ((e : ℕ) → e < y → Agrees sh (wholeLog sh h) (ranTo sh h) e)) i (r, l, n, b),
       λ x. a ∙ ap (tellingOf 11) (lowest-one c d n b (x .2) (x .3)),
     )
     tells (full q a l w m) d = (λ e. absurd (let n : _≡_ {A = ℕ} 13 11 = ap code (sym a ∙ e) in omega arith), λ x. no-room q l m (x .0))
@@ -172,9 +172,9 @@ module _ (sh : Shape) (shape : okShape sh ≡ true) (h : History) (scratch : Lis
 
   -- ---- which end it is
 
-  module _ (framed : Framed (wholeLog sh h)) where
-    frame : badFrame log ≡ false
-    frame = words-frame (wholeLog sh h) framed
+  module _ (framed : Framed sh (wholeLog sh h)) where
+    frame : badFrame sh log ≡ false
+    frame = words-frame sh shape (wholeLog sh h) framed
 
     good : lowestBad sh log ≡ none
     good = keeps-good sh shape h
@@ -187,7 +187,7 @@ module _ (sh : Shape) (shape : okShape sh ≡ true) (h : History) (scratch : Lis
       obeys : (d : ℕ) (r : Decision) → d < log .tail → log .entry d ≡ decision r → okEntry sh log d (decision r) ≡ true
       obeys d r l e = rw e at (good-kept sh log good d l)
 
-      told-agrees : (d : ℕ) → d < log .tail → asPlayed sh log room d (log .entry d) ≡ true → Agrees (wholeLog sh h) (ranTo sh h) d
+      told-agrees : (d : ℕ) → d < log .tail → asPlayed sh log room d (log .entry d) ≡ true → Agrees sh (wholeLog sh h) (ranTo sh h) d
       told-agrees d l t = record {
         decisions = λ r n c e i.
             let b = decision-below sh log d r (obeys d r l e) in
@@ -195,7 +195,7 @@ module _ (sh : Shape) (shape : okShape sh ≡ true) (h : History) (scratch : Lis
         checkpoints = λ o cs e k. rw (same d (omega arith)) (checkpoint-judged sh shape log room frame good ended d o cs l e .0 (rw e at t) k);
       }
 
-      agrees-told : (d : ℕ) → d < log .tail → Agrees (wholeLog sh h) (ranTo sh h) d → asPlayed sh log room d (log .entry d) ≡ true
+      agrees-told : (d : ℕ) → d < log .tail → Agrees sh (wholeLog sh h) (ranTo sh h) d → asPlayed sh log room d (log .entry d) ≡ true
       unfolding okEntry
       agrees-told d l a = go (log .entry d) refl
         where

@@ -11,8 +11,8 @@ use borrow.Author.Tests.{ltb-true, ltb-false, not-false}
 use lib.Dec.{eqb, ltb}
 use Rattle.lists.specs.Tests.{and-r, ands, ors, both, beq-true, clash}
 use Rattle.lists.specs.Sets.{all, within}
-use Rattle.model.specs.Slot.{mostSlots}
-use Rattle.model.specs.Objects.{Shape, ids, isCell, okShape, everything}
+use Rattle.model.specs.Slot.{mostSlots, okShape}
+use Rattle.model.specs.Objects.{Shape, ids, isCell, everything}
 use Rattle.model.specs.Entries.{Decision, Write, Read, Claim, Entry, plain, numbered, commit, decision, checkpoint, blank, Effect, writes, aside, tries, inert, effect, Log, commitIn, ifSome, readObjects}
 use Rattle.model.specs.Rules.{okWrite, okWrites, okRead, okReads, okEntry, lowestBad}
 use Rattle.model.specs.Table.{Cell, lookup, capacity}
@@ -37,7 +37,7 @@ isGoing (waits q cs) = false
 isGoing (lacks q cs) = false
 
 pub record Sound (sh : Shape) (log : Log) (room : ℕ) : Type 0 where
-  pub frame : badFrame log ≡ false
+  pub frame : badFrame sh log ≡ false
   pub good : lowestBad sh log ≡ none
   pub ended : isGoing (auditPlay sh log room (log .tail)) ≡ true
   pub told : (d : ℕ) → d < log .tail → asPlayed sh log room d (log .entry d) ≡ true
@@ -59,7 +59,7 @@ audit-passed sh log scratch h =
     go none none (going cs) i j k e =
         let tests = all-pass (frameAndEntries sh log) i in
         record {
-          frame = refuse-none 1 (badFrame log) (tests .0);
+          frame = refuse-none 1 (badFrame sh log) (tests .0);
           good = refuseAt-none 2 (lowestBad sh log) (tests .1 .0);
           ended = ap isGoing k;
           told = λ d l. not-false _ (lowest-none (λ d. not (asPlayed sh log room d (log .entry d))) (log .tail) j d l);
@@ -119,18 +119,18 @@ going-back sh log set room p cs d (suc n) h = going-back sh log set room p cs d 
     go (waits q u) i = i
     go (lacks q u) i = i
 
-pub tail-small : (log : Log) → badFrame log ≡ false → log .tail ≤ mostSlots
+pub tail-small : (sh : Shape) (log : Log) → badFrame sh log ≡ false → log .tail ≤ mostSlots
 unfolding badFrame
-tail-small log e =
-    let a : ltb (slots log) (log .tail) ≡ false = search ors in
-    omega (arith, frame-few log e, ltb-false (slots log) (log .tail) a)
+tail-small sh log e =
+    let a : ltb (slots sh log) (log .tail) ≡ false = search ors in
+    omega (arith, frame-few sh log e, ltb-false (slots sh log) (log .tail) a)
 
 -- a play that goes on to the tail went on to every offset below
 pub goes-back : (sh : Shape) (log : Log) (room d : ℕ) → isGoing (auditPlay sh log room (log .tail)) ≡ true → d ≤ log .tail → isGoing (auditPlay sh log room d) ≡ true
 goes-back sh log room d e l = let s : d + (log .tail - d) ≡ log .tail = omega arith in going-back sh log (ids sh) room 0 [] d (log .tail - d) (rw s e)
 
 -- on a good log, whatever its decisions and checkpoints say
-module _ (sh : Shape) (shape : okShape sh ≡ true) (log : Log) (room : ℕ) (frame : badFrame log ≡ false) (good : lowestBad sh log ≡ none) where
+module _ (sh : Shape) (shape : okShape sh ≡ true) (log : Log) (room : ℕ) (frame : badFrame sh log ≡ false) (good : lowestBad sh log ≡ none) where
   kept : Kept sh log (log .tail)
   kept = good-kept sh log good
 
@@ -141,7 +141,7 @@ module _ (sh : Shape) (shape : okShape sh ≡ true) (log : Log) (room : ℕ) (fr
   pub audit-ok : (d : ℕ) → d ≤ log .tail → Ok sh shape log (ids sh) room d (auditPlay sh log room d)
   audit-ok d l =
       let s : 0 + d ≡ d = omega arith in
-      let few = tail-small log frame in
+      let few = tail-small sh log frame in
       rw s at (play-ok sh shape log (ids sh) room 0 [] (start-shown sh log (ids sh)) d (omega arith) (λ q h. trusted q (omega arith)) (λ q h. placed sh log (log .tail) kept q (omega arith)))
 
   -- the audit's cells as played to d

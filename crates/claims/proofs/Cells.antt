@@ -13,8 +13,9 @@ use lib.ListN.{length}
 use Rattle.laws.proofs.Tables.{all-store}
 use Rattle.lists.specs.Tests.{and-l, and-r, ands, both, clash}
 use Rattle.lists.specs.Sets.{all, mem, ascending, all-weaken}
-use Rattle.model.specs.Objects.{Shape, isCell, okShape}
+use Rattle.model.specs.Objects.{Shape, isCell}
 use Rattle.model.specs.Entries.{Write, Held, contentOf, isNone}
+use Rattle.model.specs.Slot.{okShape}
 use Rattle.model.specs.Rules.{fits, okWrite}
 use Rattle.model.specs.Table.{Cell, Holds, isOf, heldBy, lookup, presentField, cellOf, store, apply}
 use Rattle.model.specs.Run.{written, madeAll}

@@ -1,11 +1,12 @@
 -- The conditions in words are what the definitions' tests decide: a frame, a number's writes and commit record, a decision, the
 -- objects of a commit record. Each by induction over the log's entries below a bound, or by arithmetic.
-use Prim.Native.Nat.{ℕ, zero, suc, _/_, _%_, _<_}
+use Prim.Native.Nat.{ℕ, zero, suc, _/_, _%_, _<_, _≤_}
 use mathlib.Core.Path.{_≡_, refl, ap, sym, _∙_}
 use mathlib.Core.Logic.{_⊎_, inl, inr}
 use mathlib.Core.Bool.{Bool, true, false, cond, not, _||_}
 use mathlib.Core.List.{List, [], _++_, List·Memᴰ, List·Memᴰ·append-cases, List·Memᴰ·not-nil, Memᴰ·append-left, Memᴰ·append-right}
 use mathlib.Core.Option.{Option, none, some}
+use native.Mathlib.Nat.{div-add-mod, mul-div-right, mul-mod-right}
 use native.Mathlib.Omega.{arith}
 use borrow.Author.Tests.{eqb-true, eqb-false, eq-eqb, ltb-false, le-ltb, not-false}
 use lib.Dec.{eqb, ltb}
@@ -13,36 +14,39 @@ use lib.ListN.{length}
 use Rattle.lists.specs.Tests.{ors, neither, clash}
 use Rattle.lists.specs.Sets.{mem, meets, any-set}
 use Rattle.lists.specs.Members.{any-in, in-any, mem-map, map-mem}
-use Rattle.model.specs.Entries.{Decision, Write, Entry, plain, numbered, commit, decision, checkpoint, blank, effect, Log, asideUnder, writesOf, closesIn, commitIn, ifSome, closed, outcomeAfter, decided, isNone, writtenObjects, commitObjects}
-use Rattle.model.specs.Slot.{logIn, mostSlots, slotSize}
+use Rattle.model.specs.Objects.{Shape}
+use Rattle.model.specs.Entries.{Decision, Write, Entry, plain, numbered, commit, decision, checkpoint, blank, effect, Log, asideUnder, writesOf, commitIn, ifSome, closed, outcomeAfter, decided, isNone, writtenObjects, commitObjects, closesIn}
+use Rattle.model.specs.Slot.{logIn, mostSlots, okShape}
 use Rattle.model.specs.Answers.{slots, badFrame}
 use Rattle.model.specs.Histories.{Lent, inLog}
 use Rattle.model.specs.Conditions.{Framed, SetAside, Committed, Decided, Concerns}
+use Rattle.laws.proofs.Sizes.{layout}
 use Rattle.laws.proofs.Refusals.{not-none}
 
 -- ---- the frame
 
-pub frame-words : (l : Lent) → badFrame (inLog l) ≡ false → Framed l
+pub frame-words : (sh : Shape) (l : Lent) → badFrame sh (inLog sh l) ≡ false → Framed sh l
 unfolding badFrame logIn
-frame-words l e =
-    let w : not (eqb (length (l .bytes) % slotSize) 0) ≡ false = search ors in
-    let z : length (l .bytes) % slotSize ≡ 0 = eqb-true _ 0 (not-false _ w) in
-    let a : ltb mostSlots (length (l .bytes) / slotSize) ≡ false = search ors in
-    let b : ltb (length (l .bytes) / slotSize) (l .tail) ≡ false = search ors in
+frame-words sh l e =
+    let w : not (eqb (length (l .bytes) % sh .slotSize) 0) ≡ false = search ors in
+    let z : length (l .bytes) % sh .slotSize ≡ 0 = eqb-true _ 0 (not-false _ w) in
+    let a : ltb mostSlots (length (l .bytes) / sh .slotSize) ≡ false = search ors in
+    let b : ltb (length (l .bytes) / sh .slotSize) (l .tail) ≡ false = search ors in
     record {
-      slots = length (l .bytes) / slotSize;
-      whole = omega arith;
-      few = ltb-false mostSlots (length (l .bytes) / slotSize) a;
-      used = ltb-false (length (l .bytes) / slotSize) (l .tail) b;
+      slots = length (l .bytes) / sh .slotSize;
+      whole = omega (arith, div-add-mod (length (l .bytes)) (sh .slotSize));
+      few = ltb-false mostSlots (length (l .bytes) / sh .slotSize) a;
+      used = ltb-false (length (l .bytes) / sh .slotSize) (l .tail) b;
     }
 
-pub words-frame : (l : Lent) → Framed l → badFrame (inLog l) ≡ false
+pub words-frame : (sh : Shape) → okShape sh ≡ true → (l : Lent) → Framed sh l → badFrame sh (inLog sh l) ≡ false
 unfolding badFrame logIn
-words-frame l f =
-    let n : length (l .bytes) / slotSize ≡ f .slots = omega (arith, f .whole) in
-    let z : length (l .bytes) % slotSize ≡ 0 = omega (arith, f .whole) in
-    neither (neither (ap not (eq-eqb (length (l .bytes) % slotSize) 0 z)) (le-ltb mostSlots (length (l .bytes) / slotSize) (omega (arith, f .few))))
-    (le-ltb (length (l .bytes) / slotSize) (l .tail) (omega (arith, f .used)))
+words-frame sh shape l f =
+    let some : 1 ≤ sh .slotSize = omega (arith, layout sh shape .room) in
+    let n : length (l .bytes) / sh .slotSize ≡ f .slots = ap (λ (m : ℕ). m / sh .slotSize) (f .whole) ∙ mul-div-right (f .slots) some in
+    let z : length (l .bytes) % sh .slotSize ≡ 0 = ap (λ (m : ℕ). m % sh .slotSize) (f .whole) ∙ mul-mod-right (sh .slotSize) (f .slots) in
+    neither (neither (ap not (eq-eqb (length (l .bytes) % sh .slotSize) 0 z)) (le-ltb mostSlots (length (l .bytes) / sh .slotSize) (omega (arith, f .few))))
+    (le-ltb (length (l .bytes) / sh .slotSize) (l .tail) (omega (arith, f .used)))
 
 -- ---- the writes of a number
 

@@ -4,6 +4,7 @@ use mathlib.Core.Bool.{true}
 use Prim.Native.Nat.{ℕ}
 use Rattle.lists.specs.Tests.{clash}
 use Rattle.model.specs.Objects.{Shape}
+use Rattle.model.specs.Slot.{okShape}
 use Rattle.model.specs.Answers.{Answer, done, refused}
 use Rattle.model.specs.Append.{Request}
 use Rattle.model.specs.Histories.{Lent, isRefused, appendTo}
@@ -18,5 +19,5 @@ unchanged sh l q h = go (appendTo sh l q .newTail) refl h
     go (done t) e i = clash true refl (sym i)
     go (refused r) e i = refused-same sh (l .bytes) (l .tail) q r e
 
-pub demand1 : (sh : Shape) → Demand1 sh
-demand1 sh = record { refusedAppend = unchanged sh; playLeaves = play-leaves sh }
+pub demand1 : (sh : Shape) → okShape sh ≡ true → Demand1 sh
+demand1 sh shape = record { refusedAppend = unchanged sh; playLeaves = play-leaves sh shape }

@@ -2,7 +2,8 @@
 -- alike entries are the same bytes, and outcomes are as they should be, in the run and in replicas.
 use mathlib.Core.Path.{_≡_}
 use mathlib.Core.Bool.{true}
-use Rattle.model.specs.Objects.{Shape, okShape}
+use Rattle.model.specs.Objects.{Shape}
+use Rattle.model.specs.Slot.{okShape}
 use Rattle.model.specs.Claims.{Demand2}
 use Rattle.claims.proofs.Accepts.{accepts-exactly}
 use Rattle.claims.proofs.KeepsGood.{keeps-good}

@@ -10,9 +10,9 @@ use borrow.Author.Tests.{eqb-true, le-ltb}
 use lib.Dec.{eqb}
 use Rattle.lists.specs.Tests.{and-l, neither, clash}
 use Rattle.lists.specs.Sets.{mem}
-use Rattle.model.specs.Objects.{Shape, okShape, isCell, hosted}
+use Rattle.model.specs.Objects.{Shape, isCell, hosted}
 use Rattle.model.specs.Entries.{Read, Held, Claim, Log}
-use Rattle.model.specs.Slot.{logIn}
+use Rattle.model.specs.Slot.{logIn, okShape}
 use Rattle.model.specs.Table.{cellsOf, capacity, lookup, versionIn}
 use Rattle.model.specs.Answers.{done, refuse, firstOf, answer}
 use Rattle.model.specs.Append.{Request, commits, claimGiven, badRecord}
@@ -64,18 +64,18 @@ module _ (sh : Shape) (whole : Log) (r : Carried) (good : Good sh whole r) where
 -- ---- the demand
 
 abbrev whole : Shape → History → Log
-whole sh h = inLog (wholeLog sh h)
+whole sh h = inLog sh (wholeLog sh h)
 
 abbrev at : Shape → History → Play → Log
-at sh h p = inLog (stood sh h (p .stoodAfter))
+at sh h p = inLog sh (stood sh h (p .stoodAfter))
 
 module _ (sh : Shape) (shape : okShape sh ≡ true) (h : History) (room : ℕ) (sound : Sound sh (whole sh h) room) where
-  was : (n : ℕ) → Stood sh (whole sh h) (inLog (stood sh h n))
+  was : (n : ℕ) → Stood sh (whole sh h) (inLog sh (stood sh h n))
   was n = stood-so sh shape h room n sound
 
   opened-good : (o : Opening) (r : Carried) → opened sh h o ≡ some r → Good sh (whole sh h) r
   opened-good (fresh set table) r e = fresh-good sh (whole sh h) set table r e
-  opened-good (atCheckpoint n o table) r e = open-good sh shape (whole sh h) room sound (inLog (stood sh h n)) (was n) o table r e
+  opened-good (atCheckpoint n o table) r e = open-good sh shape (whole sh h) room sound (inLog sh (stood sh h n)) (was n) o table r e
 
   plays-good : (r : Carried) (ps : List Play) → Good sh (whole sh h) r → Good sh (whole sh h) (plays sh h r ps)
   unfolding plays
@@ -91,7 +91,7 @@ module _ (sh : Shape) (shape : okShape sh ≡ true) (h : History) (room : ℕ) (
     -- on the log as it stood, a play whose record and stop are fit is refused by nothing
     fit-playable : (p : Play) → Fit (stood sh h (p .stoodAfter) .tail) r (p .stop) → Playable sh (stood sh h (p .stoodAfter)) r (p .stop)
     fit-playable p f = record {
-      framed = frame-words (stood sh h (p .stoodAfter)) (was (p .stoodAfter) .frame);
+      framed = frame-words sh (stood sh h (p .stoodAfter)) (was (p .stoodAfter) .frame);
       good = good-below sh (at sh h p) (was (p .stoodAfter) .good);
       fit = f;
     }
@@ -101,7 +101,7 @@ module _ (sh : Shape) (shape : okShape sh ≡ true) (h : History) (room : ℕ) (
     unfolding logIn
     lacking p e =
         let l : Lent = stood sh h (p .stoodAfter) in
-        let f : Fit (l .tail) r (p .stop) = answered sh l r (p .stop) 13 (omega arith) e .fit in
+        let f : Fit (l .tail) r (p .stop) = answered sh shape l r (p .stop) 13 (omega arith) e .fit in
         let k = play-lacking sh shape (whole sh h) (at sh h p) (was (p .stoodAfter)) r (p .stop) g (words-replica (l .tail) r (p .stop) f, words-stop (l .tail) r (p .stop) f) e in
         rw (run-at sh shape h (played sh h r p .replica .position + 1) (k .next)) (k .many)
 
@@ -128,8 +128,8 @@ module _ (sh : Shape) (shape : okShape sh ≡ true) (h : History) (room : ℕ) (
       count = sym (length-cells (r .table) (r .replica .count)) ∙ how-many sh shape (hosts sh r) (cellsOf (r .table) (r .replica .count)) (run (whole sh h) (r .replica .position) .cells) (g .inv)
           ∙ ap (λ s. cellsWritten (sh .objects) (hosts sh r) (s .cells)) (sym position);
       waits = λ p. refit _ _ (at sh h p) (hosts sh r) (r .replica .position) (p .stop) (played sh h r p) (λ f. f .fit) (fit-playable p)
-          (play-leaves sh (stood sh h (p .stoodAfter)) r (p .stop) .waits);
-      ends = λ p. let w = play-leaves sh (stood sh h (p .stoodAfter)) r (p .stop) .ends in ((λ x. w .0 x .fit), (λ f. w .1 (fit-playable p f)));
+          (play-leaves sh shape (stood sh h (p .stoodAfter)) r (p .stop) .waits);
+      ends = λ p. let w = play-leaves sh shape (stood sh h (p .stoodAfter)) r (p .stop) .ends in ((λ x. w .0 x .fit), (λ f. w .1 (fit-playable p f)));
       lacks = lacking;
       rereads = λ before later n items e taken fresh x held m i v.
           let l : Lent = grown sh (empty (h .bytes)) before in
@@ -138,7 +138,7 @@ module _ (sh : Shape) (shape : okShape sh ≡ true) (h : History) (room : ℕ) (
 
 -- what holds of a replica after its plays
 pub replica-good : (sh : Shape) → okShape sh ≡ true → (h : History) (scratch : List ℕ) → Passed sh h scratch
-    → (opening : Opening) (r : Carried) → opened sh h opening ≡ some r → (ps : List Play) → Good sh (inLog (wholeLog sh h)) (plays sh h r ps)
+    → (opening : Opening) (r : Carried) → opened sh h opening ≡ some r → (ps : List Play) → Good sh (inLog sh (wholeLog sh h)) (plays sh h r ps)
 replica-good sh shape h scratch passed o r e ps =
     let sound = audit-passed sh (whole sh h) scratch passed in
     plays-good sh shape h (capacity scratch) sound r ps (opened-good sh shape h (capacity scratch) sound o r e)

@@ -2,7 +2,8 @@
 -- holds of it.
 use mathlib.Core.Path.{_≡_, refl}
 use mathlib.Core.Bool.{true}
-use Rattle.model.specs.Objects.{okShape, depots}
+use Rattle.model.specs.Objects.{depots}
+use Rattle.model.specs.Slot.{okShape}
 use Rattle.model.specs.Claims.{Demand1, Demand2, Demand3, AuditsExactly, NeverWaits, OpensAt, OpensWherever}
 use Rattle.claims.proofs.Demand1.{demand1}
 use Rattle.claims.proofs.Demand2.{demand2}
@@ -15,7 +16,7 @@ good-shape : okShape depots ≡ true
 good-shape = refl
 
 pub demand1-depots : Demand1 depots
-demand1-depots = demand1 depots
+demand1-depots = demand1 depots good-shape
 
 pub demand2-depots : Demand2 depots
 demand2-depots = demand2 depots good-shape
@@ -33,4 +34,4 @@ pub opens-at-depots : OpensAt depots
 opens-at-depots = opens-at depots good-shape
 
 pub opens-wherever-depots : OpensWherever depots
-opens-wherever-depots = opens-wherever depots
+opens-wherever-depots = opens-wherever depots good-shape

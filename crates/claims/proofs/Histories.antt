@@ -1,6 +1,6 @@
 -- Histories: a log only grows, so as it stood it agrees with the whole log below its tail and is as good; and the run fed by
 -- the history's appends is the run over the entries of its log. Each by induction over the appends, refused or accepted.
-use Prim.Native.Nat.{ℕ, zero, suc, _+_, _%_, _<_, _≤_}
+use Prim.Native.Nat.{ℕ, zero, suc, _+_, _/_, _%_, _<_, _≤_}
 use mathlib.Core.Path.{_≡_, refl, ap, sym, _∙_, subst}
 use mathlib.Core.Bool.{Bool, true, false, cond, not, _||_}
 use mathlib.Core.List.{List, [], _∷_, _++_}
@@ -11,9 +11,9 @@ use borrow.Author.Tests.{eqb-true, eqb-false, ltb-true, ltb-false, le-ltb}
 use lib.Dec.{eqb, ltb}
 use lib.ListN.{length, take}
 use Rattle.lists.specs.Tests.{ands, or-l, or-r, neither, clash}
-use Rattle.model.specs.Objects.{Shape, okShape}
+use Rattle.model.specs.Objects.{Shape}
 use Rattle.model.specs.Entries.{Decision, decision, Log}
-use Rattle.model.specs.Slot.{logIn, mostSlots, slotSize}
+use Rattle.model.specs.Slot.{logIn, mostSlots, okShape}
 use Rattle.model.specs.Rules.{okEntry, lowestBad}
 use Rattle.model.specs.Answers.{Answer, done, refused, slots, badFrame}
 use Rattle.model.specs.Append.{Request, entryOf}
@@ -32,8 +32,8 @@ record Grew (sh : Shape) (l : Lent) (q : Request) : Type 0 where
   taken : isRefused (appendTo sh l q .newTail) ≡ false
   longer : after sh l q .tail ≡ l .tail + 1
   size : length (after sh l q .bytes) ≡ length (l .bytes)
-  below : Agree (inLog (after sh l q)) (inLog l) (l .tail)
-  here : inLog (after sh l q) .entry (l .tail) ≡ entryOf (inLog l) q
+  below : Agree (inLog sh (after sh l q)) (inLog sh l) (l .tail)
+  here : inLog sh (after sh l q) .entry (l .tail) ≡ entryOf (inLog sh l) q
 
 data Turn (sh : Shape) (l : Lent) (q : Request) : Type 0 where
   kept : isRefused (appendTo sh l q .newTail) ≡ true → after sh l q ≡ l → Turn sh l q
@@ -43,7 +43,7 @@ data Turn (sh : Shape) (l : Lent) (q : Request) : Type 0 where
 record Longer (sh : Shape) (l m : Lent) : Type 0 where
   tails : l .tail ≤ m .tail
   size : length (m .bytes) ≡ length (l .bytes)
-  agrees : Agree (inLog m) (inLog l) (l .tail)
+  agrees : Agree (inLog sh m) (inLog sh l) (l .tail)
 
 not-longer : (sh : Shape) (l : Lent) → Longer sh l l
 not-longer sh l = record { tails = omega arith; size = refl; agrees = λ o h. refl }
@@ -114,13 +114,13 @@ module _ (sh : Shape) (shape : okShape sh ≡ true) where
       go false i = ap (λ s. runAt p s fs) (run-next log before q n e) ∙ h (past (eqb-false (run log n .count) p i))
 
   run-fed : (l : Lent) (qs : List Request) (p : ℕ) → l .tail ≤ p → p ≤ grown sh l qs .tail
-      → runAt p (run (inLog (grown sh l qs)) (l .tail)) (feed sh l qs) ≡ run (inLog (grown sh l qs)) p
+      → runAt p (run (inLog sh (grown sh l qs)) (l .tail)) (feed sh l qs) ≡ run (inLog sh (grown sh l qs)) p
   unfolding grown feed runAt
-  run-fed l [] p a b = let e : l .tail ≡ p = omega arith in ap (run (inLog l)) e
+  run-fed l [] p a b = let e : l .tail ≡ p = omega arith in ap (run (inLog sh l)) e
   run-fed l (q ∷ qs) p a b = go (turn l q) (λ c. run-fed (after sh l q) qs p c b)
     where
       whole : Log
-      whole = inLog (grown sh (after sh l q) qs)
+      whole = inLog sh (grown sh (after sh l q) qs)
 
       fs : List Fed
       fs = feed sh (after sh l q) qs
@@ -134,29 +134,29 @@ module _ (sh : Shape) (shape : okShape sh ≡ true) where
           rw e (subst (λ n. runAt p (run whole n) fs ≡ run whole p) t (ih (omega arith)))
       go (grew g) ih =
           let t : after sh l q .tail ≡ suc (l .tail) = g .longer ∙ add-one (l .tail) in
-          let e : whole .entry (l .tail) ≡ entryOf (inLog l) q = grown-longer (after sh l q) qs .agrees (l .tail) (omega arith) ∙ g .here in
-          rw (g .taken) (fed-more whole (inLog l) q (l .tail) p fs e a (λ h. subst (λ n. runAt p (run whole n) fs ≡ run whole p) t (ih (omega arith))))
+          let e : whole .entry (l .tail) ≡ entryOf (inLog sh l) q = grown-longer (after sh l q) qs .agrees (l .tail) (omega arith) ∙ g .here in
+          rw (g .taken) (fed-more whole (inLog sh l) q (l .tail) p fs e a (λ h. subst (λ n. runAt p (run whole n) fs ≡ run whole p) t (ih (omega arith))))
 
   -- what the run had at count p, over the entries
-  pub run-at : (h : History) (p : ℕ) → p ≤ wholeLog sh h .tail → ranTo sh h p ≡ run (inLog (wholeLog sh h)) p
+  pub run-at : (h : History) (p : ℕ) → p ≤ wholeLog sh h .tail → ranTo sh h p ≡ run (inLog sh (wholeLog sh h)) p
   run-at h p l =
-      ap (λ s. runAt p s (feed sh (empty (h .bytes)) (h .requests))) (sym (run-start (inLog (wholeLog sh h))))
+      ap (λ s. runAt p s (feed sh (empty (h .bytes)) (h .requests))) (sym (run-start (inLog sh (wholeLog sh h))))
       ∙ run-fed (empty (h .bytes)) (h .requests) p (omega arith) l
 
 -- ---- the log as it stood
 
-frame-below : (old new : Log) → badFrame new ≡ false → new .size ≡ old .size → old .tail ≤ new .tail → badFrame old ≡ false
+frame-below : (sh : Shape) (old new : Log) → badFrame sh new ≡ false → new .size ≡ old .size → old .tail ≤ new .tail → badFrame sh old ≡ false
 unfolding badFrame
-frame-below old new e s l =
-    let whole : (not (eqb (old .size % slotSize) 0) || ltb mostSlots (slots old)) ≡ false = rw (← s) (or-l _ (ltb (slots new) (new .tail)) e) in
-    let high : ltb (slots new) (new .tail) ≡ false = or-r (not (eqb (new .size % slotSize) 0) || ltb mostSlots (slots new)) (ltb (slots new) (new .tail)) e in
-    neither whole (le-ltb (slots old) (old .tail) (omega (arith, ltb-false (slots new) (new .tail) high)))
+frame-below sh old new e s l =
+    let whole : (not (eqb (old .size % sh .slotSize) 0) || ltb mostSlots (slots sh old)) ≡ false = rw (← s) (or-l _ (ltb (slots sh new) (new .tail)) e) in
+    let high : ltb (slots sh new) (new .tail) ≡ false = or-r (not (eqb (new .size % sh .slotSize) 0) || ltb mostSlots (slots sh new)) (ltb (slots sh new) (new .tail)) e in
+    neither whole (le-ltb (slots sh old) (old .tail) (omega (arith, ltb-false (slots sh new) (new .tail) high, ap (λ (n : ℕ). n / sh .slotSize) s)))
 
 -- a log as it stood when the whole log had a lower tail
 pub record Stood (sh : Shape) (whole log : Log) : Type 0 where
   pub tails : log .tail ≤ whole .tail
   pub agrees : Agree log whole (log .tail)
-  pub frame : badFrame log ≡ false
+  pub frame : badFrame sh log ≡ false
   pub good : lowestBad sh log ≡ none
   pub truths : TrueBelow log (log .tail)
 
@@ -171,16 +171,16 @@ true-below sh whole log g l a tr d h r e =
     let below : r .offset < d = ltb-true (r .offset) d lt in
     tr d (omega arith) r e′ ∙ rw (run-agree log whole o (fewer log whole (log .tail) o (omega arith) a), a o (omega arith))
 
-pub stood-so : (sh : Shape) → okShape sh ≡ true → (h : History) (room n : ℕ) → Sound sh (inLog (wholeLog sh h)) room → Stood sh (inLog (wholeLog sh h)) (inLog (stood sh h n))
+pub stood-so : (sh : Shape) → okShape sh ≡ true → (h : History) (room n : ℕ) → Sound sh (inLog sh (wholeLog sh h)) room → Stood sh (inLog sh (wholeLog sh h)) (inLog sh (stood sh h n))
 unfolding logIn
 stood-so sh shape h room n sound =
     let start : Lent = empty (h .bytes) in
     let up : Longer sh (stood sh h n) (wholeLog sh h) = first-longer sh shape start n (h .requests) in
-    let agrees : Agree (inLog (stood sh h n)) (inLog (wholeLog sh h)) (stood sh h n .tail) = λ o k. sym (up .agrees o k) in
+    let agrees : Agree (inLog sh (stood sh h n)) (inLog sh (wholeLog sh h)) (stood sh h n .tail) = λ o k. sym (up .agrees o k) in
     record {
       tails = up .tails;
       agrees = agrees;
-      frame = frame-below (inLog (stood sh h n)) (inLog (wholeLog sh h)) (sound .frame) (up .size) (up .tails);
+      frame = frame-below sh (inLog sh (stood sh h n)) (inLog sh (wholeLog sh h)) (sound .frame) (up .size) (up .tails);
       good = grown-good sh shape start (take n (h .requests)) (empty-good sh shape (h .bytes));
-      truths = true-below sh (inLog (wholeLog sh h)) (inLog (stood sh h n)) (sound .good) (up .tails) agrees (decisions-true sh shape (inLog (wholeLog sh h)) room sound);
+      truths = true-below sh (inLog sh (wholeLog sh h)) (inLog sh (stood sh h n)) (sound .good) (up .tails) agrees (decisions-true sh shape (inLog sh (wholeLog sh h)) room sound);
     }

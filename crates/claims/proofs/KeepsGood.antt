@@ -6,8 +6,8 @@ use mathlib.Core.List.{List, [], _∷_}
 use mathlib.Core.Option.{none}
 use Prim.Native.Nat.{ℕ}
 use native.Mathlib.Omega.{arith}
-use Rattle.model.specs.Objects.{Shape, okShape}
-use Rattle.model.specs.Slot.{logIn, logOf}
+use Rattle.model.specs.Objects.{Shape}
+use Rattle.model.specs.Slot.{logIn, logOf, okShape}
 use Rattle.model.specs.Rules.{lowestBad}
 use Rattle.model.specs.Answers.{Answer, done, refused}
 use Rattle.model.specs.Append.{Request}
@@ -18,21 +18,21 @@ use Rattle.laws.proofs.Appends.{accepted, refused-same}
 
 module _ (sh : Shape) (shape : okShape sh ≡ true) where
   -- one append
-  pub after-good : (l : Lent) (q : Request) → lowestBad sh (inLog l) ≡ none → lowestBad sh (inLog (after sh l q)) ≡ none
+  pub after-good : (l : Lent) (q : Request) → lowestBad sh (inLog sh l) ≡ none → lowestBad sh (inLog sh (after sh l q)) ≡ none
   after-good l q good = by (appendTo sh l q .newTail) refl
     where
-      by : (a : Answer ℕ) → appendTo sh l q .newTail ≡ a → lowestBad sh (logOf (appendTo sh l q .bytes) (tailAfter (l .tail) a)) ≡ none
+      by : (a : Answer ℕ) → appendTo sh l q .newTail ≡ a → lowestBad sh (logOf sh (appendTo sh l q .bytes) (tailAfter (l .tail) a)) ≡ none
       by (done t) e = let a = accepted sh (l .bytes) (l .tail) q t shape e in rw (a .next) (a .good)
       by (refused r) e = rw (refused-same sh (l .bytes) (l .tail) q r e) good
 
-  pub grown-good : (l : Lent) (qs : List Request) → lowestBad sh (inLog l) ≡ none → lowestBad sh (inLog (grown sh l qs)) ≡ none
+  pub grown-good : (l : Lent) (qs : List Request) → lowestBad sh (inLog sh l) ≡ none → lowestBad sh (inLog sh (grown sh l qs)) ≡ none
   unfolding grown
   grown-good l [] good = good
   grown-good l (q ∷ qs) good = grown-good (after sh l q) qs (after-good l q good)
 
-  pub empty-good : (bytes : List ℕ) → lowestBad sh (inLog (empty bytes)) ≡ none
+  pub empty-good : (bytes : List ℕ) → lowestBad sh (inLog sh (empty bytes)) ≡ none
   unfolding logIn
-  empty-good bytes = below-good sh (logOf bytes 0) (λ p h. absurd (omega arith))
+  empty-good bytes = below-good sh (logOf sh bytes 0) (λ p h. absurd (omega arith))
 
 pub keeps-good : (sh : Shape) → okShape sh ≡ true → KeepsGood sh
 keeps-good sh shape h = grown-good sh shape (empty (h .bytes)) (h .requests) (empty-good sh shape (h .bytes))

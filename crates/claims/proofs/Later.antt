@@ -4,14 +4,16 @@ use Prim.Native.Nat.{ℕ, zero, suc, _+_, _*_, _<_, _≤_}
 use mathlib.Core.Path.{_≡_, refl, ap, sym, _∙_}
 use mathlib.Core.Bool.{true, false}
 use mathlib.Core.List.{List, [], _∷_}
+use native.Mathlib.Nat.{mul-le-mul-left}
 use native.Mathlib.Omega.{arith}
 use lib.ListN.{take, drop}
 use lib.Seq.{take-take, take-nil}
-use Rattle.model.specs.Objects.{Shape, okShape}
-use Rattle.model.specs.Slot.{slotSize, slot}
+use Rattle.model.specs.Objects.{Shape}
+use Rattle.model.specs.Slot.{slot, okShape}
 use Rattle.model.specs.Answers.{Answer, done, refused, badFrame}
 use Rattle.model.specs.Append.{Request}
 use Rattle.model.specs.Histories.{Lent, inLog, tailAfter, appendTo, after, grown}
+use Rattle.laws.proofs.Sizes.{slot-ends}
 use Rattle.laws.proofs.Appends.{accepted, refused-same}
 
 -- ---- a part of the bytes
@@ -23,44 +25,44 @@ part-taken zero (suc d) k (x ∷ b) h = absurd (omega arith)
 part-taken (suc n) (suc d) k (x ∷ b) h = part-taken n d k b (omega arith)
 
 -- a slot below the lower of two tails, in bytes that are the same up to it
-pub slot-later : (a b : List ℕ) (m n o : ℕ) → o < m → m ≤ n → take (slotSize * m) b ≡ take (slotSize * m) a → slot (take (slotSize * n) b) o ≡ slot (take (slotSize * m) a) o
+pub slot-later : (sh : Shape) (a b : List ℕ) (m n o : ℕ) → o < m → m ≤ n → take (sh .slotSize * m) b ≡ take (sh .slotSize * m) a → slot sh (take (sh .slotSize * n) b) o ≡ slot sh (take (sh .slotSize * m) a) o
 unfolding slot
-slot-later a b m n o h l e =
-    part-taken (slotSize * n) (slotSize * o) slotSize b (omega arith)
-    ∙ sym (part-taken (slotSize * m) (slotSize * o) slotSize b (omega arith))
-    ∙ ap (λ (t : List ℕ). take slotSize (drop (slotSize * o) t)) e
+slot-later sh a b m n o h l e =
+    part-taken (sh .slotSize * n) (sh .slotSize * o) (sh .slotSize) b (slot-ends (sh .slotSize) o n (omega arith))
+    ∙ sym (part-taken (sh .slotSize * m) (sh .slotSize * o) (sh .slotSize) b (slot-ends (sh .slotSize) o m h))
+    ∙ ap (λ (t : List ℕ). take (sh .slotSize) (drop (sh .slotSize * o) t)) e
 
 -- ---- the log
 
-pub record Later (l m : Lent) : Type 0 where
+pub record Later (sh : Shape) (l m : Lent) : Type 0 where
   pub tails : l .tail ≤ m .tail
-  pub same : take (slotSize * l .tail) (m .bytes) ≡ take (slotSize * l .tail) (l .bytes)
-  pub frame : badFrame (inLog m) ≡ false
+  pub same : take (sh .slotSize * l .tail) (m .bytes) ≡ take (sh .slotSize * l .tail) (l .bytes)
+  pub frame : badFrame sh (inLog sh m) ≡ false
 
 module _ (sh : Shape) (shape : okShape sh ≡ true) where
-  after-later : (l : Lent) (q : Request) → badFrame (inLog l) ≡ false → Later l (after sh l q)
+  after-later : (l : Lent) (q : Request) → badFrame sh (inLog sh l) ≡ false → Later sh l (after sh l q)
   after-later l q framed = by (appendTo sh l q .newTail) refl
     where
-      by : (x : Answer ℕ) → appendTo sh l q .newTail ≡ x → Later l (record { bytes = appendTo sh l q .bytes; tail = tailAfter (l .tail) x })
+      by : (x : Answer ℕ) → appendTo sh l q .newTail ≡ x → Later sh l (record { bytes = appendTo sh l q .bytes; tail = tailAfter (l .tail) x })
       by (done t) e =
           let a = accepted sh (l .bytes) (l .tail) q t shape e in
           record { tails = omega (arith, a .next); same = a .front; frame = rw (a .next) (a .frame) }
       by (refused r) e =
           let s = refused-same sh (l .bytes) (l .tail) q r e in
-          record { tails = omega arith; same = ap (take (slotSize * l .tail)) s; frame = rw s framed }
+          record { tails = omega arith; same = ap (take (sh .slotSize * l .tail)) s; frame = rw s framed }
 
-  pub grown-later : (l : Lent) (qs : List Request) → badFrame (inLog l) ≡ false → Later l (grown sh l qs)
+  pub grown-later : (l : Lent) (qs : List Request) → badFrame sh (inLog sh l) ≡ false → Later sh l (grown sh l qs)
   unfolding grown
   grown-later l [] framed = record { tails = omega arith; same = refl; frame = framed }
   grown-later l (q ∷ qs) framed =
-      let a : Later l (after sh l q) = after-later l q framed in
-      let b : Later (after sh l q) (grown sh (after sh l q) qs) = grown-later (after sh l q) qs (a .frame) in
+      let a : Later sh l (after sh l q) = after-later l q framed in
+      let b : Later sh (after sh l q) (grown sh (after sh l q) qs) = grown-later (after sh l q) qs (a .frame) in
       let end : List ℕ = grown sh (after sh l q) qs .bytes in
       record {
         tails = omega (arith, a .tails, b .tails);
-        same = sym (take-take (slotSize * l .tail) (slotSize * after sh l q .tail) end (omega (arith, a .tails)))
-            ∙ ap (take (slotSize * l .tail)) (b .same)
-            ∙ take-take (slotSize * l .tail) (slotSize * after sh l q .tail) (after sh l q .bytes) (omega (arith, a .tails))
+        same = sym (take-take (sh .slotSize * l .tail) (sh .slotSize * after sh l q .tail) end (mul-le-mul-left (sh .slotSize) (a .tails)))
+            ∙ ap (take (sh .slotSize * l .tail)) (b .same)
+            ∙ take-take (sh .slotSize * l .tail) (sh .slotSize * after sh l q .tail) (after sh l q .bytes) (mul-le-mul-left (sh .slotSize) (a .tails))
             ∙ a .same;
         frame = b .frame;
       }

@@ -11,7 +11,7 @@ use lib.Dec.{eqb, ltb}
 use Rattle.lists.specs.Tests.{ors, neither, clash}
 use Rattle.model.specs.Objects.{Shape}
 use Rattle.model.specs.Entries.{Log}
-use Rattle.model.specs.Slot.{logIn}
+use Rattle.model.specs.Slot.{logIn, okShape}
 use Rattle.model.specs.Rules.{lowestBad}
 use Rattle.model.specs.Table.{cellsOf, capacity}
 use Rattle.model.specs.Play.{Played, going, waits, lacks, cellsIn}
@@ -65,9 +65,9 @@ own-number false none true d x e = let n : 10 ≡ x .number = ap numberIn e in o
 own-number false none false true x e = let n : 3 ≡ x .number = ap numberIn e in omega arith
 own-number false none false false x e = not-none x (sym e)
 
-module _ (sh : Shape) (l : Lent) (r : Carried) (stop : ℕ) where
+module _ (sh : Shape) (shape : okShape sh ≡ true) (l : Lent) (r : Carried) (stop : ℕ) where
   abbrev log : Log
-  log = inLog l
+  log = inLog sh l
 
   abbrev tests : List (Option Refusal)
   tests = frameAndEntries sh log ++ (refuse 10 (badReplica (l .tail) (r .replica) (r .table)) ∷ refuse 3 (badStop (l .tail) (r .replica) stop) ∷ [])
@@ -77,14 +77,14 @@ module _ (sh : Shape) (l : Lent) (r : Carried) (stop : ℕ) where
   playable-words e =
       let pass = all-pass tests e in
       record {
-        framed = frame-words l (refuse-none 1 _ (pass .0));
+        framed = frame-words sh l (refuse-none 1 _ (pass .0));
         good = good-below sh log (refuseAt-none 2 _ (pass .1 .0));
         fit = fit-words (l .tail) r stop (refuse-none 10 _ (pass .1 .1 .0)) (refuse-none 3 _ (pass .1 .1 .1 .0));
       }
 
   pub words-playable : Playable sh l r stop → playRefusal sh log (r .replica) (r .table) stop ≡ none
   unfolding logIn
-  words-playable p = rw (words-frame l (p .framed), below-good sh log (p .good), words-replica (l .tail) r stop (p .fit), words-stop (l .tail) r stop (p .fit))
+  words-playable p = rw (words-frame sh shape l (p .framed), below-good sh log (p .good), words-replica (l .tail) r stop (p .fit), words-stop (l .tail) r stop (p .fit))
 
   -- what such a play leaves
   pub plays-so : Playable sh l r stop → playOn sh l r stop ≡ leftBy (r .replica .hosting) stop (r .table) (playFrom sh log (r .replica) (r .table) stop)
@@ -128,17 +128,17 @@ module _ (sh : Shape) (l : Lent) (r : Carried) (stop : ℕ) where
     }
 
 -- a play to its own position is done, and leaves the same
-stays-there : (sh : Shape) (l : Lent) (r : Carried) (stop : ℕ) → Playable sh l r stop
+stays-there : (sh : Shape) → okShape sh ≡ true → (l : Lent) (r : Carried) (stop : ℕ) → Playable sh l r stop
     → playOn sh l r (playOn sh l r stop .replica .position) ≡ doneWith (playOn sh l r stop .replica) (playOn sh l r stop .table)
-stays-there sh l r stop p =
-    let out : Left = leftBy (r .replica .hosting) stop (r .table) (from sh l r stop) in
-    let same : playOn sh l r stop ≡ out = plays-so sh l r stop p in
-    let at : ℕ = standsAt sh (inLog l) [] 0 stop (from sh l r stop) in
+stays-there sh shape l r stop p =
+    let out : Left = leftBy (r .replica .hosting) stop (r .table) (from sh shape l r stop) in
+    let same : playOn sh l r stop ≡ out = plays-so sh shape l r stop p in
+    let at : ℕ = standsAt sh (inLog sh l) [] 0 stop (from sh shape l r stop) in
     ap (λ (x : Left). playOn sh l r (x .replica .position)) same
-    ∙ ap (playOn sh l r) (left-at sh l r stop (from sh l r stop))
-    ∙ plays-so sh l r at (to-there sh l r stop p)
-    ∙ ap (leftBy (r .replica .hosting) at (r .table)) (reached sh l r stop p .by)
-    ∙ left-done sh l r stop (from sh l r stop)
+    ∙ ap (playOn sh l r) (left-at sh shape l r stop (from sh shape l r stop))
+    ∙ plays-so sh shape l r at (to-there sh shape l r stop p)
+    ∙ ap (leftBy (r .replica .hosting) at (r .table)) (reached sh shape l r stop p .by)
+    ∙ left-done sh shape l r stop (from sh shape l r stop)
     ∙ ap (λ (x : Left). doneWith (x .replica) (x .table)) (sym same)
 
 -- ---- a play that is refused
@@ -148,25 +148,25 @@ not-ended stop x r table l (there e h) = clash true refl (ap isRefused e)
 not-ended stop x r table l (waiting e h) = let n : x .number ≡ 12 = ap code e in omega arith
 not-ended stop x r table l (noRoom e h) = let n : x .number ≡ 13 = ap code e in omega arith
 
-pub play-leaves : (sh : Shape) (l : Lent) (r : Carried) (stop : ℕ) → PlayLeaves sh l r stop (playOn sh l r stop)
+pub play-leaves : (sh : Shape) → okShape sh ≡ true → (l : Lent) (r : Carried) (stop : ℕ) → PlayLeaves sh l r stop (playOn sh l r stop)
 unfolding playCall logIn
-play-leaves sh l r stop = go (playRefusal sh (inLog l) (r .replica) (r .table) stop) refl
+play-leaves sh shape l r stop = go (playRefusal sh (inLog sh l) (r .replica) (r .table) stop) refl
   where
-    go : (x : Option Refusal) → playRefusal sh (inLog l) (r .replica) (r .table) stop ≡ x → PlayLeaves sh l r stop (playOn sh l r stop)
+    go : (x : Option Refusal) → playRefusal sh (inLog sh l) (r .replica) (r .table) stop ≡ x → PlayLeaves sh l r stop (playOn sh l r stop)
     go none e =
-        let p : Playable sh l r stop = playable-words sh l r stop e in
+        let p : Playable sh l r stop = playable-words sh shape l r stop e in
         record {
-          ends = ((λ x. p), (λ x. rw (plays-so sh l r stop p) (play-ends sh (inLog l) (hosts sh r) (capacity (r .table)) (r .replica .hosting) (r .replica .position) stop (r .table) (cellsOf (r .table) (r .replica .count)) (p .fit .onward))));
+          ends = ((λ x. p), (λ x. rw (plays-so sh shape l r stop p) (play-ends sh (inLog sh l) (hosts sh r) (capacity (r .table)) (r .replica .hosting) (r .replica .position) stop (r .table) (cellsOf (r .table) (r .replica .count)) (p .fit .onward))));
           unchanged = λ h. absurd (h p);
-          stopped = stays-there sh l r stop;
-          waits = rw (plays-so sh l r stop p) (play-waits sh (inLog l) (hosts sh r) (capacity (r .table)) (Playable sh l r stop) p (r .replica .hosting) (r .replica .position) stop (r .table) (cellsOf (r .table) (r .replica .count)) (p .fit .onward));
-          lacks = rw (plays-so sh l r stop p) (left-lacks sh (inLog l) (hosts sh r) (capacity (r .table)) (r .replica .hosting) (r .replica .position) stop (r .table) (cellsOf (r .table) (r .replica .count)));
+          stopped = stays-there sh shape l r stop;
+          waits = rw (plays-so sh shape l r stop p) (play-waits sh (inLog sh l) (hosts sh r) (capacity (r .table)) (Playable sh l r stop) p (r .replica .hosting) (r .replica .position) stop (r .table) (cellsOf (r .table) (r .replica .count)) (p .fit .onward));
+          lacks = rw (plays-so sh shape l r stop p) (left-lacks sh (inLog sh l) (hosts sh r) (capacity (r .table)) (r .replica .hosting) (r .replica .position) stop (r .table) (cellsOf (r .table) (r .replica .count)));
         }
     go (some x) e =
         let same : playOn sh l r stop ≡ record { answer = refused x; replica = r .replica; table = r .table } =
-        ap (playGiven (r .replica) stop (r .table) (playFrom sh (inLog l) (r .replica) (r .table) stop)) e in
-        let low : x .number < 12 = own-number (badFrame (inLog l)) (lowestBad sh (inLog l)) (badReplica (l .tail) (r .replica) (r .table)) (badStop (l .tail) (r .replica) stop) x e in
-        let no : Playable sh l r stop → ⊥ = λ p. not-none x (sym e ∙ words-playable sh l r stop p) in
+        ap (playGiven (r .replica) stop (r .table) (playFrom sh (inLog sh l) (r .replica) (r .table) stop)) e in
+        let low : x .number < 12 = own-number (badFrame sh (inLog sh l)) (lowestBad sh (inLog sh l)) (badReplica (l .tail) (r .replica) (r .table)) (badStop (l .tail) (r .replica) stop) x e in
+        let no : Playable sh l r stop → ⊥ = λ p. not-none x (sym e ∙ words-playable sh shape l r stop p) in
         record {
           ends = ((λ h. absurd (not-ended stop x (r .replica) (r .table) low (subst (Ended stop) same h))), (λ p. absurd (no p)));
           unchanged = λ h. (ap (λ (y : Left). y .replica) same, ap (λ (y : Left). y .table) same);
@@ -188,14 +188,14 @@ refit a b log set from stop out f g w = record {
 }
 
 -- a play that answers 12 or 13 is one that nothing refuses
-pub answered : (sh : Shape) (l : Lent) (r : Carried) (stop n : ℕ) → 12 ≤ n → playOn sh l r stop .answer ≡ plainly n → Playable sh l r stop
+pub answered : (sh : Shape) → okShape sh ≡ true → (l : Lent) (r : Carried) (stop n : ℕ) → 12 ≤ n → playOn sh l r stop .answer ≡ plainly n → Playable sh l r stop
 unfolding playCall logIn
-answered sh l r stop n high h = go (playRefusal sh (inLog l) (r .replica) (r .table) stop) refl
+answered sh shape l r stop n high h = go (playRefusal sh (inLog sh l) (r .replica) (r .table) stop) refl
   where
-    go : (x : Option Refusal) → playRefusal sh (inLog l) (r .replica) (r .table) stop ≡ x → Playable sh l r stop
-    go none e = playable-words sh l r stop e
+    go : (x : Option Refusal) → playRefusal sh (inLog sh l) (r .replica) (r .table) stop ≡ x → Playable sh l r stop
+    go none e = playable-words sh shape l r stop e
     go (some x) e =
-        let low : x .number < 12 = own-number (badFrame (inLog l)) (lowestBad sh (inLog l)) (badReplica (l .tail) (r .replica) (r .table)) (badStop (l .tail) (r .replica) stop) x e in
+        let low : x .number < 12 = own-number (badFrame sh (inLog sh l)) (lowestBad sh (inLog sh l)) (badReplica (l .tail) (r .replica) (r .table)) (badStop (l .tail) (r .replica) stop) x e in
         let same : refused x ≡ plainly n =
-        sym (ap (λ (y : Option Refusal). playGiven (r .replica) stop (r .table) (playFrom sh (inLog l) (r .replica) (r .table) stop) y .answer) e) ∙ h in
+        sym (ap (λ (y : Option Refusal). playGiven (r .replica) stop (r .table) (playFrom sh (inLog sh l) (r .replica) (r .table) stop) y .answer) e) ∙ h in
         absurd (let k : x .number ≡ n = ap code same in omega arith)

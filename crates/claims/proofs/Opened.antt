@@ -13,9 +13,9 @@ use lib.Seq.{drop-at}
 use Rattle.lists.specs.Tests.{ands, or-l, clash}
 use Rattle.lists.specs.Rows.{joined}
 use Rattle.lists.specs.Sets.{all}
-use Rattle.model.specs.Objects.{Shape, okShape, setOf}
+use Rattle.model.specs.Objects.{Shape, setOf}
 use Rattle.model.specs.Entries.{Saved, Entry, plain, numbered, commit, decision, checkpoint, blank, Log, ifSome, isNone}
-use Rattle.model.specs.Slot.{logIn}
+use Rattle.model.specs.Slot.{logIn, okShape}
 use Rattle.model.specs.Rules.{lowestBad, okSaved, okEntry}
 use Rattle.model.specs.Table.{cellSize, cellBytes, cellOf, capacity, tableWith}
 use Rattle.model.specs.Answers.{Refusal, done, refuse, firstOf, badFrame, frameAndEntries}
@@ -53,13 +53,13 @@ rest-kept table x cs =
 
 module _ (sh : Shape) (shape : okShape sh ≡ true) (log : Log) (o : ℕ) (table : List ℕ) where
   -- an opening that passed its tests
-  loads : (x : ℕ) (cs : List Saved) → badFrame log ≡ false → lowestBad sh log ≡ none → o < log .tail → log .entry o ≡ checkpoint x cs
+  loads : (x : ℕ) (cs : List Saved) → badFrame sh log ≡ false → lowestBad sh log ≡ none → o < log .tail → log .entry o ≡ checkpoint x cs
       → OpenedAt sh log o table (leftWith (done tt) (setOf sh x) (o + 1) table (loaded x cs))
   unfolding okEntry
   loads x cs frame good l e =
       let k : okEntry sh log o (checkpoint x cs) ≡ true = rw e at (good-kept sh log good o l) in
       let each : all (okSaved sh o x) cs ≡ true = search ands in
-      let own = loaded-owned x sh shape o (omega (arith, tail-small log frame)) cs each in
+      let own = loaded-owned x sh shape o (omega (arith, tail-small sh log frame)) cs each in
       record {
         object = x;
         cells = cs;
@@ -91,10 +91,10 @@ module _ (sh : Shape) (shape : okShape sh ≡ true) (log : Log) (o : ℕ) (table
 
 pub opens-at : (sh : Shape) → okShape sh ≡ true → OpensAt sh
 unfolding openAt
-opens-at sh shape l o table h = opened-at sh shape (inLog l) o table (inLog l .entry o) refl (openRefusal sh (inLog l) o table) refl h
+opens-at sh shape l o table h = opened-at sh shape (inLog sh l) o table (inLog sh l .entry o) refl (openRefusal sh (inLog sh l) o table) refl h
 
-pub opens-wherever : (sh : Shape) → OpensWherever sh
+pub opens-wherever : (sh : Shape) → okShape sh ≡ true → OpensWherever sh
 unfolding openAt logIn
-opens-wherever sh l o table x cs framed good low e room =
+opens-wherever sh shape l o table x cs framed good low e room =
     let full : ltb (capacity table) (length (loaded x cs)) ≡ false = le-ltb (capacity table) (length (loaded x cs)) (omega (arith, many x cs)) in
-    rw (words-frame l framed, below-good sh (inLog l) good, e, lt-leb (l .tail) o low, full)
+    rw (words-frame sh shape l framed, below-good sh (inLog sh l) good, e, lt-leb (l .tail) o low, full)

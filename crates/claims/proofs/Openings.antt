@@ -10,9 +10,9 @@ use lib.Dec.{eqb}
 use Rattle.laws.proofs.Same.{same-saved}
 use Rattle.lists.specs.Tests.{and-r, ands, both, or-false, clash}
 use Rattle.lists.specs.Sets.{all, mem, ascending, first-leads, rest-ascends}
-use Rattle.model.specs.Objects.{Object, Shape, ids, isObject, isCell, okShape, hostedBy, hosted, bitOf, setOf}
+use Rattle.model.specs.Objects.{Object, Shape, ids, isObject, isCell, hostedBy, hosted, bitOf, setOf}
 use Rattle.model.specs.Entries.{Saved, checkpoint, effect, Log, isNone}
-use Rattle.model.specs.Slot.{valueField, mostSlots}
+use Rattle.model.specs.Slot.{valueField, mostSlots, okShape}
 use Rattle.model.specs.Rules.{fits, okSaved, savedBefore, okEntry}
 use Rattle.model.specs.Table.{Cell, lookup, cellOf, savedOf}
 use Rattle.model.specs.Play.{cellsIn}
@@ -113,7 +113,7 @@ checkpoint-shows sh shape log room sound d o cs l e =
     ∙ audit-shows sh shape log room sound d (omega arith) .reads o i m ∙ ap (λ c. c o i) (sym kept) in
     record {
       reads = λ x i h. rw (← mem-one x o h) (there i);
-      each = loaded-owned o sh shape d (omega (arith, tail-small log (sound .frame))) cs (search ands);
+      each = loaded-owned o sh shape d (omega (arith, tail-small sh log (sound .frame))) cs (search ands);
       once = ascending-distinct o cs (search ands);
     }
 

@@ -13,9 +13,9 @@ use lib.Dec.{ltb}
 use Rattle.lists.specs.Tests.{clash}
 use Rattle.lists.specs.Sets.{mem}
 use Rattle.lists.specs.Rows.{getD-values-past}
-use Rattle.model.specs.Objects.{Shape, okShape, isCell, hosted}
+use Rattle.model.specs.Objects.{Shape, isCell, hosted}
 use Rattle.model.specs.Entries.{Claim, Entry, commit, blank, effect, Log}
-use Rattle.model.specs.Slot.{logIn}
+use Rattle.model.specs.Slot.{logIn, okShape}
 use Rattle.model.specs.Table.{Holds, capacity}
 use Rattle.model.specs.Play.{Played, going, waits, lacks}
 use Rattle.model.specs.Answers.{Refusal, done}
@@ -50,17 +50,17 @@ pub plays-hosting : (sh : Shape) (h : History) (r : Carried) (ps : List Play) �
 unfolding plays
 plays-hosting sh h r [] = refl
 plays-hosting sh h r (p ∷ ps) =
-    plays-hosting sh h (carried (played sh h r p)) ps ∙ play-hosting sh (inLog (stood sh h (p .stoodAfter))) (r .replica) (r .table) (p .stop)
+    plays-hosting sh h (carried (played sh h r p)) ps ∙ play-hosting sh (inLog sh (stood sh h (p .stoodAfter))) (r .replica) (r .table) (p .stop)
 
 -- ---- an entry lies below the tail
 
-commit-below : (l : Lent) (p m : ℕ) (c : Claim) → inLog l .entry p ≡ commit m c → p < l .tail
+commit-below : (sh : Shape) (l : Lent) (p m : ℕ) (c : Claim) → inLog sh l .entry p ≡ commit m c → p < l .tail
 unfolding logIn
-commit-below l p m c e = go (ltb p (l .tail)) refl
+commit-below sh l p m c e = go (ltb p (l .tail)) refl
   where
     go : (b : Bool) → ltb p (l .tail) ≡ b → p < l .tail
     go true i = ltb-true p (l .tail) i
-    go false i = let past : inLog l .entry p ≡ blank = getD-values-past _ 0 (l .tail) p blank (ltb-false p (l .tail) i) in clash true refl cc
+    go false i = let past : inLog sh l .entry p ≡ blank = getD-values-past _ 0 (l .tail) p blank (ltb-false p (l .tail) i) in clash true refl cc
 
 -- ---- one play more
 
@@ -72,10 +72,10 @@ plays-more sh h r (q ∷ ps) p = plays-more sh h (carried (played sh h r q)) ps 
 -- ---- the run at a commit record
 
 module _ (sh : Shape) (shape : okShape sh ≡ true) (h : History) (p n : ℕ) (c : Claim)
-    (low : p < wholeLog sh h .tail) (here : inLog (wholeLog sh h) .entry p ≡ commit n c) where
+    (low : p < wholeLog sh h .tail) (here : inLog sh (wholeLog sh h) .entry p ≡ commit n c) where
   ran-next : ranTo sh h (p + 1) .cells ≡ cond (current (ranTo sh h p .cells) (c .reads)) (madeAll (p + 1) (ranTo sh h p .aside n) (ranTo sh h p .cells)) (ranTo sh h p .cells)
   ran-next =
-      let whole : Log = inLog (wholeLog sh h) in
+      let whole : Log = inLog sh (wholeLog sh h) in
       let s : p + 1 ≡ suc p = add-one p in
       let then : ranTo sh h p ≡ run whole p = run-at sh shape h p (omega arith) in
       ap (λ (x : Run). x .cells) (run-at sh shape h (p + 1) (omega arith)) ∙ ap (λ (m : ℕ). run whole m .cells) s
@@ -91,7 +91,7 @@ module _ (sh : Shape) (shape : okShape sh ≡ true) (h : History) (p n : ℕ) (c
 -- ---- the outcomes
 
 module _ (sh : Shape) (h : History) (x : Carried) (m n : ℕ) (c : Claim) (shows : Shows sh h x)
-    (fit : Fit (stood sh h m .tail) x (x .replica .position + 1)) (concerns : Concerns (inLog (stood sh h m)) (hosts sh x) n (x .replica .position)) where
+    (fit : Fit (stood sh h m .tail) x (x .replica .position + 1)) (concerns : Concerns (inLog sh (stood sh h m)) (hosts sh x) n (x .replica .position)) where
   abbrev p : ℕ
   p = x .replica .position
 
@@ -116,23 +116,23 @@ module _ (sh : Shape) (h : History) (x : Carried) (m n : ℕ) (c : Claim) (shows
       go (waiting d i) = clash true refl (ap isRefused (sym d ∙ e))
       go (noRoom d i) = clash true refl (ap isRefused (sym d ∙ e))
 
-  waits-there : (out .answer ≡ plainly 12) ↔ Blocked (inLog (stood sh h m)) (hosts sh x) p
+  waits-there : (out .answer ≡ plainly 12) ↔ Blocked (inLog sh (stood sh h m)) (hosts sh x) p
   waits-there = (forth, back ended)
     where
-      w : Waiting (Fit (stood sh h m .tail) x (p + 1)) (inLog (stood sh h m)) (hosts sh x) p (p + 1) out
+      w : Waiting (Fit (stood sh h m .tail) x (p + 1)) (inLog sh (stood sh h m)) (hosts sh x) p (p + 1) out
       w = shows .waits turn
 
-      forth : out .answer ≡ plainly 12 → Blocked (inLog (stood sh h m)) (hosts sh x) p
-      forth e = let k = w .exactly .0 e in subst (Blocked (inLog (stood sh h m)) (hosts sh x)) (short (k .1)) (k .2)
+      forth : out .answer ≡ plainly 12 → Blocked (inLog sh (stood sh h m)) (hosts sh x) p
+      forth e = let k = w .exactly .0 e in subst (Blocked (inLog sh (stood sh h m)) (hosts sh x)) (short (k .1)) (k .2)
 
-      back : Ended (p + 1) out → Blocked (inLog (stood sh h m)) (hosts sh x) p → out .answer ≡ plainly 12
+      back : Ended (p + 1) out → Blocked (inLog sh (stood sh h m)) (hosts sh x) p → out .answer ≡ plainly 12
       back (there d i) b = absurd (w .passes fit p (omega arith) (omega (arith, i)) b)
       back (waiting d i) b = d
-      back (noRoom d i) b = w .exactly .1 (fit, i, subst (Blocked (inLog (stood sh h m)) (hosts sh x)) (sym (short i)) b)
+      back (noRoom d i) b = w .exactly .1 (fit, i, subst (Blocked (inLog sh (stood sh h m)) (hosts sh x)) (sym (short i)) b)
 
-  module _ (shape : okShape sh ≡ true) (low : p < wholeLog sh h .tail) (here : inLog (wholeLog sh h) .entry p ≡ commit n c) (next : Shows sh h (carried out)) where
+  module _ (shape : okShape sh ≡ true) (low : p < wholeLog sh h .tail) (here : inLog sh (wholeLog sh h) .entry p ≡ commit n c) (next : Shows sh h (carried out)) where
     hosts-same : hosts sh (carried out) ≡ hosts sh x
-    hosts-same = ap (hosted sh) (play-hosting sh (inLog (stood sh h m)) (x .replica) (x .table) (p + 1))
+    hosts-same = ap (hosted sh) (play-hosting sh (inLog sh (stood sh h m)) (x .replica) (x .table) (p + 1))
 
     reads-next : out .answer ≡ done tt → (o k : ℕ) → mem o (hosts sh x) ≡ true → isCell sh o k ≡ true → readCell sh (out .replica) (out .table) o k ≡ done (ranTo sh h (p + 1) .cells o k)
     reads-next e o k i j =
@@ -164,13 +164,13 @@ module _ (sh : Shape) (h : History) (x : Carried) (m n : ℕ) (c : Claim) (shows
 pub same-outcomes : (sh : Shape) → okShape sh ≡ true → SameOutcomes sh
 unfolding logIn
 same-outcomes sh shape h scratch passed o r opens ps m n c x e here fit concerns =
-    let whole : Log = inLog (wholeLog sh h) in
-    let log : Log = inLog (stood sh h m) in
+    let whole : Log = inLog sh (wholeLog sh h) in
+    let log : Log = inLog sh (stood sh h m) in
     let at : ℕ = x .replica .position in
     let shows : Shows sh h x = subst (Shows sh h) (sym e) (demand3 sh shape h scratch passed o r opens ps) in
     let one : Play = record { stoodAfter = m; stop = at + 1 } in
     let next : Shows sh h (carried (played sh h x one)) =
     subst (Shows sh h) (plays-more sh h r ps one ∙ ap (λ (y : Carried). carried (played sh h y one)) (sym e)) (demand3 sh shape h scratch passed o r opens (ps ++ (one ∷ []))) in
     let was : Stood sh whole log = stood-so sh shape h (capacity scratch) m (audit-passed sh whole scratch passed) in
-    let low : at < log .tail = commit-below (stood sh h m) at n c here in
+    let low : at < log .tail = commit-below sh (stood sh h m) at n c here in
     same-outcome sh h x m n c shows fit concerns shape (omega (arith, low, was .tails)) (sym (was .agrees at low) ∙ here) next

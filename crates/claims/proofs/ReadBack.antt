@@ -15,9 +15,9 @@ use Rattle.lists.specs.Members.{mem-map, map-mem}
 use Rattle.lists.specs.Rows.{map-values}
 use Rattle.lists.specs.Bytes.{beAt}
 use Rattle.lists.specs.Splice.{splice}
-use Rattle.model.specs.Objects.{Shape, okShape}
+use Rattle.model.specs.Objects.{Shape}
 use Rattle.model.specs.Entries.{Write, commit, Log, writesOf, writtenObjects, commitObjects, headerObjects, numberOf}
-use Rattle.model.specs.Slot.{objectsIn, slotSize, markOf, itemBytes, itemCount, slotOf, slot, logIn, headerSize, headersBegin, itemSize, itemsBegin}
+use Rattle.model.specs.Slot.{objectsIn, markOf, itemBytes, itemCount, slotOf, slot, logIn, headerSize, headersBegin, itemSize, itemsBegin, okShape}
 use Rattle.model.specs.Rules.{lowestBad}
 use Rattle.model.specs.Table.{Cell, cellsOf, savedOf}
 use Rattle.model.specs.Answers.{done, answer}
@@ -49,9 +49,9 @@ kind-marked log s (saves r table o) e = rw e
 
 -- ---- the header objects
 
-objects-told : (s : List ℕ) → headerObjectsIn (infoIn s) ≡ objectsIn s
+objects-told : (sh : Shape) (s : List ℕ) → headerObjectsIn (infoIn sh s) ≡ objectsIn sh s
 unfolding infoIn objectsIn
-objects-told s = map-values (λ (x : Header). x .object) (λ i. headerAt s (headersBegin + headerSize * i)) 0 (beAt 1 s 2)
+objects-told sh s = map-values (λ (x : Header). x .object) (λ i. headerAt s (headersBegin + headerSize sh * i)) 0 (beAt 1 s 2)
 
 -- ---- what was given
 
@@ -101,15 +101,15 @@ objects-given sh log (saves r table o) a = refl
 module _ (sh : Shape) (shape : okShape sh ≡ true) (l : Lent) (q : Request) (taken : Accepted sh l q) where
   -- the slot of the entry, over the log as it was
   abbrev pub itsSlot : List ℕ
-  itsSlot = slotOf (inLog l) (l .tail) (entryOf (inLog l) q)
+  itsSlot = slotOf sh (inLog sh l) (l .tail) (entryOf (inLog sh l) q)
 
-  given : Allowed sh (inLog l) q
+  given : Allowed sh (inLog sh l) q
   given = accepts-exactly sh shape l q .0 taken .allowed
 
-  left : appendTo sh l q ≡ record { newTail = done (l .tail + 1); bytes = splice (l .bytes) (slotSize * l .tail) itsSlot }
+  left : appendTo sh l q ≡ record { newTail = done (l .tail + 1); bytes = splice (l .bytes) (sh .slotSize * l .tail) itsSlot }
   left = wrote sh (l .bytes) (l .tail) q (passed sh (l .bytes) (l .tail) q taken)
 
-  pub left-bytes : after sh l q .bytes ≡ splice (l .bytes) (slotSize * l .tail) itsSlot
+  pub left-bytes : after sh l q .bytes ≡ splice (l .bytes) (sh .slotSize * l .tail) itsSlot
   left-bytes = ap (λ a. a .bytes) left
 
   exit : Exit sh (l .bytes) (l .tail) q (l .tail + 1) (appendTo sh l q .bytes)
@@ -118,30 +118,30 @@ module _ (sh : Shape) (shape : okShape sh ≡ true) (l : Lent) (q : Request) (ta
   pub one-slot : WroteOneSlot sh l q
   one-slot = record { answers = ap (λ a. a .newTail) left; size = exit .size; front = exit .front; rest = exit .rest }
 
-  kept : Kept sh (inLog l) (l .tail)
+  kept : Kept sh (inLog sh l) (l .tail)
   unfolding logIn
-  kept = good-kept sh (inLog l) (exit .was-good)
+  kept = good-kept sh (inLog sh l) (exit .was-good)
 
-  few-headers : length (headerObjects (inLog l) (l .tail) (entryOf (inLog l) q)) ≤ 4
-  few-headers = headers-few sh (inLog l) shape (l .tail) (entryOf (inLog l) q) kept (exit .obeyed)
+  few-headers : length (headerObjects (inLog sh l) (l .tail) (entryOf (inLog sh l) q)) ≤ sh .headers
+  few-headers = headers-few sh (inLog sh l) shape (l .tail) (entryOf (inLog sh l) q) kept (exit .obeyed)
 
-  few-items : itemCount (entryOf (inLog l) q) ≤ 12
-  few-items = items-few sh (inLog l) shape (l .tail) (entryOf (inLog l) q) (exit .obeyed)
+  few-items : itemCount (entryOf (inLog sh l) q) ≤ sh .items
+  few-items = items-few sh (inLog sh l) shape (l .tail) (entryOf (inLog sh l) q) (exit .obeyed)
 
   -- ---- the slot, as the calls tell it
 
-  pub kind-is : infoIn itsSlot .kind ≡ kindGiven q
+  pub kind-is : infoIn sh itsSlot .kind ≡ kindGiven q
   unfolding infoIn
-  kind-is = kind-marked (inLog l) itsSlot q (slot-mark (inLog l) (l .tail) (entryOf (inLog l) q))
+  kind-is = kind-marked (inLog sh l) itsSlot q (slot-mark sh shape (inLog sh l) (l .tail) (entryOf (inLog sh l) q))
 
-  pub number-is : infoIn itsSlot .number ≡ numberOf (entryOf (inLog l) q)
+  pub number-is : infoIn sh itsSlot .number ≡ numberOf (entryOf (inLog sh l) q)
   unfolding infoIn
-  number-is = slot-number (inLog l) (l .tail) (entryOf (inLog l) q) (number-fits sh (inLog l) shape (l .tail) (entryOf (inLog l) q) kept (exit .obeyed))
+  number-is = slot-number sh shape (inLog sh l) (l .tail) (entryOf (inLog sh l) q) (number-fits sh (inLog sh l) shape (l .tail) (entryOf (inLog sh l) q) kept (exit .obeyed))
 
-  pub objects-are : headerObjectsIn (infoIn itsSlot) ≡ headerObjects (inLog l) (l .tail) (entryOf (inLog l) q)
+  pub objects-are : headerObjectsIn (infoIn sh itsSlot) ≡ headerObjects (inLog sh l) (l .tail) (entryOf (inLog sh l) q)
   objects-are =
-      objects-told itsSlot
-      ∙ objects-read (inLog l) (l .tail) (entryOf (inLog l) q) few-headers (headers-small sh shape (inLog l) (l .tail) (entryOf (inLog l) q) kept (exit .obeyed))
+      objects-told sh itsSlot
+      ∙ objects-read sh shape (inLog sh l) (l .tail) (entryOf (inLog sh l) q) few-headers (headers-small sh shape (inLog sh l) (l .tail) (entryOf (inLog sh l) q) kept (exit .obeyed))
 
   -- ---- the calls, some appends later
 
@@ -152,44 +152,44 @@ module _ (sh : Shape) (shape : okShape sh ≡ true) (l : Lent) (q : Request) (ta
     tail-after : after sh l q .tail ≡ l .tail + 1
     tail-after = ap (λ a. tailAfter (l .tail) (a .newTail)) left
 
-    up : Later (after sh l q) now
+    up : Later sh (after sh l q) now
     up = grown-later sh shape (after sh l q) later (rw tail-after (exit .frame))
 
-    good : lowestBad sh (inLog now) ≡ none
+    good : lowestBad sh (inLog sh now) ≡ none
     good = grown-good sh shape (after sh l q) later (rw tail-after (exit .good))
 
-    nothing-refuses : entryRefusal sh (inLog now) (l .tail) ≡ none
+    nothing-refuses : entryRefusal sh (inLog sh now) (l .tail) ≡ none
     unfolding logIn
     nothing-refuses = rw (up .frame, good, lt-leb (now .tail) (l .tail) (omega (arith, tail-after, up .tails)))
 
-    written : slot (inLog now .used) (l .tail) ≡ itsSlot
+    written : slot sh (inLog sh now .used) (l .tail) ≡ itsSlot
     unfolding logIn
     written =
-        slot-later (after sh l q .bytes) (now .bytes) (after sh l q .tail) (now .tail) (l .tail) (omega (arith, tail-after)) (up .tails) (up .same)
-        ∙ ap (λ (t : ℕ). slot (take (slotSize * t) (after sh l q .bytes)) (l .tail)) tail-after
+        slot-later sh (after sh l q .bytes) (now .bytes) (after sh l q .tail) (now .tail) (l .tail) (omega (arith, tail-after)) (up .tails) (up .same)
+        ∙ ap (λ (t : ℕ). slot sh (take (sh .slotSize * t) (after sh l q .bytes)) (l .tail)) tail-after
         ∙ exit .written
 
-    pub info-left : entryCall sh (inLog now) (l .tail) ≡ done (infoIn itsSlot)
+    pub info-left : entryCall sh (inLog sh now) (l .tail) ≡ done (infoIn sh itsSlot)
     unfolding entryCall
-    info-left = ap₂ answer nothing-refuses (ap infoIn written)
+    info-left = ap₂ answer nothing-refuses (ap (infoIn sh) written)
 
-    pub items-left : itemList sh (inLog now) (l .tail) ≡ itemBytes (entryOf (inLog l) q)
+    pub items-left : itemList sh (inLog sh now) (l .tail) ≡ itemBytes (entryOf (inLog sh l) q)
     unfolding itemList
     items-left =
-        ap₂ orEmpty nothing-refuses (ap stretch written)
-        ∙ ap (λ (n : ℕ). take (itemSize * n) (drop itemsBegin itsSlot)) (slot-count (inLog l) (l .tail) (entryOf (inLog l) q) few-items)
-        ∙ slot-items (inLog l) (l .tail) (entryOf (inLog l) q) few-headers
+        ap₂ orEmpty nothing-refuses (ap (stretch sh) written)
+        ∙ ap (λ (n : ℕ). take (itemSize * n) (drop (itemsBegin sh) itsSlot)) (slot-count sh shape (inLog sh l) (l .tail) (entryOf (inLog sh l) q) few-items)
+        ∙ slot-items sh shape (inLog sh l) (l .tail) (entryOf (inLog sh l) q) few-headers
 
     read-back : Back sh l q now
     unfolding logIn
     read-back = record {
-      info = infoIn itsSlot;
+      info = infoIn sh itsSlot;
       reads = info-left;
       kind = kind-is;
-      number = rw number-is (number-given sh (inLog l) q given);
-      objects = rw objects-are (objects-given sh (inLog l) q given);
-      ascend = rw objects-are (headers-ascend (inLog l) (l .tail) (entryOf (inLog l) q));
-      items = rw items-left (items-given sh (inLog l) q given);
+      number = rw number-is (number-given sh (inLog sh l) q given);
+      objects = rw objects-are (objects-given sh (inLog sh l) q given);
+      ascend = rw objects-are (headers-ascend (inLog sh l) (l .tail) (entryOf (inLog sh l) q));
+      items = rw items-left (items-given sh (inLog sh l) q given);
     }
 
 pub reads-back : (sh : Shape) → okShape sh ≡ true → ReadsBack sh

@@ -12,8 +12,9 @@ use lib.Dec.{eqb, leb, ltb}
 use lib.ListN.{length}
 use Rattle.lists.specs.Tests.{or-l, or-r, clash}
 use Rattle.lists.specs.Rows.{values}
-use Rattle.model.specs.Objects.{Shape, okShape, hosted, setOf}
+use Rattle.model.specs.Objects.{Shape, hosted, setOf}
 use Rattle.model.specs.Entries.{Entry, plain, numbered, commit, decision, checkpoint, blank, Log, ifSome, isNone}
+use Rattle.model.specs.Slot.{okShape}
 use Rattle.model.specs.Rules.{okEntry}
 use Rattle.model.specs.Table.{Cell, cellsOf, capacity}
 use Rattle.model.specs.Play.{Played, going, waits, lacks, cellsIn}
@@ -125,7 +126,7 @@ module _ (sh : Shape) (shape : okShape sh ≡ true) (whole log : Log) (was : Sto
   played-ok f =
       let p : ℕ = r .replica .position in
       let sum : p + (stop - p) ≡ stop = omega (arith, on f) in
-      let few = tail-small log (was .frame) in
+      let few = tail-small sh log (was .frame) in
       let inv : Shown sh (hosts sh r) (cellsOf (r .table) (r .replica .count)) (run log p .cells) =
       rw (run-same p (at f)) (good .inv) in
       rw sum at (play-ok sh shape log (hosts sh r) (capacity (r .table)) p (cellsOf (r .table) (r .replica .count)) inv (stop - p)

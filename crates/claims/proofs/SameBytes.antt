@@ -8,9 +8,9 @@ use native.Mathlib.Omega.{arith}
 use lib.Dec.{eqb}
 use lib.ListN.{length}
 use Rattle.lists.specs.Splice.{splice}
-use Rattle.model.specs.Objects.{Shape, okShape}
+use Rattle.model.specs.Objects.{Shape}
 use Rattle.model.specs.Entries.{Entry, Log, headerObjects, numberOf}
-use Rattle.model.specs.Slot.{slotSize, markUpdate, markCommit, markDecision, markCheckpoint, markOf, itemBytes, itemCount, slotOf}
+use Rattle.model.specs.Slot.{markUpdate, markCommit, markDecision, markCheckpoint, markOf, itemBytes, itemCount, slotOf, okShape}
 use Rattle.model.specs.Answers.{Answer, done, refused}
 use Rattle.model.specs.Reading.{Info, infoIn, entryCall, itemList}
 use Rattle.model.specs.Append.{Request, update, commits, decides, saves, writesGiven, entryOf}
@@ -25,10 +25,10 @@ use Rattle.claims.proofs.ReadBack.{itsSlot, left-bytes, kind-is, number
 same-count : (e e′ : Entry) → itemBytes e ≡ itemBytes e′ → itemCount e ≡ itemCount e′
 same-count e e′ i = omega (arith, length-items e, length-items e′, ap length i)
 
-same-slot : (log : Log) (p : ℕ) (e e′ : Entry) → markOf e ≡ markOf e′ → numberOf e ≡ numberOf e′ → headerObjects log p e ≡ headerObjects log p e′
-    → itemBytes e ≡ itemBytes e′ → slotOf log p e ≡ slotOf log p e′
+same-slot : (sh : Shape) (log : Log) (p : ℕ) (e e′ : Entry) → markOf e ≡ markOf e′ → numberOf e ≡ numberOf e′ → headerObjects log p e ≡ headerObjects log p e′
+    → itemBytes e ≡ itemBytes e′ → slotOf sh log p e ≡ slotOf sh log p e′
 unfolding slotOf
-same-slot log p e e′ m n h i = rw (m, n, h, same-count e e′ i, i)
+same-slot sh log p e e′ m n h i = rw (m, n, h, same-count e e′ i, i)
 
 -- ---- the kind tells the mark
 
@@ -49,29 +49,29 @@ told i (done j) = j
 told i (refused r) = i
 
 module _ (sh : Shape) (shape : okShape sh ≡ true) (l : Lent) (q : Request) (taken : Accepted sh l q) where
-  items-told : itemList sh (inLog (after sh l q)) (l .tail) ≡ itemBytes (entryOf (inLog l) q)
+  items-told : itemList sh (inLog sh (after sh l q)) (l .tail) ≡ itemBytes (entryOf (inLog sh l) q)
   unfolding grown
   items-told = items-left sh shape l q taken []
 
-  module _ (i : Info) (e : entryCall sh (inLog (after sh l q)) (l .tail) ≡ done i) where
-    same-info : i ≡ infoIn (itsSlot sh shape l q taken)
+  module _ (i : Info) (e : entryCall sh (inLog sh (after sh l q)) (l .tail) ≡ done i) where
+    same-info : i ≡ infoIn sh (itsSlot sh shape l q taken)
     unfolding grown
     same-info = ap (told i) (sym e ∙ info-left sh shape l q taken [])
 
-    mark-told : markOf (entryOf (inLog l) q) ≡ markOfKind (i .kind)
-    mark-told = kind-mark (inLog l) q ∙ ap markOfKind (sym (kind-is sh shape l q taken) ∙ ap (λ j. j .kind) (sym same-info))
+    mark-told : markOf (entryOf (inLog sh l) q) ≡ markOfKind (i .kind)
+    mark-told = kind-mark (inLog sh l) q ∙ ap markOfKind (sym (kind-is sh shape l q taken) ∙ ap (λ j. j .kind) (sym same-info))
 
-    number-told : numberOf (entryOf (inLog l) q) ≡ i .number
+    number-told : numberOf (entryOf (inLog sh l) q) ≡ i .number
     number-told = sym (number-is sh shape l q taken) ∙ ap (λ j. j .number) (sym same-info)
 
-    objects-told : headerObjects (inLog l) (l .tail) (entryOf (inLog l) q) ≡ headerObjectsIn i
+    objects-told : headerObjects (inLog sh l) (l .tail) (entryOf (inLog sh l) q) ≡ headerObjectsIn i
     objects-told = sym (objects-are sh shape l q taken) ∙ ap headerObjectsIn (sym same-info)
 
 pub same-bytes : (sh : Shape) → okShape sh ≡ true → SameBytes sh
 same-bytes sh shape l q q′ i i′ taken taken′ e e′ kind number objects items =
     left-bytes sh shape l q taken
-    ∙ ap (splice (l .bytes) (slotSize * l .tail))
-    (same-slot (inLog l) (l .tail) (entryOf (inLog l) q) (entryOf (inLog l) q′)
+    ∙ ap (splice (l .bytes) (sh .slotSize * l .tail))
+    (same-slot sh (inLog sh l) (l .tail) (entryOf (inLog sh l) q) (entryOf (inLog sh l) q′)
     (mark-told sh shape l q taken i e ∙ ap markOfKind kind ∙ sym (mark-told sh shape l q′ taken′ i′ e′))
     (number-told sh shape l q taken i e ∙ number ∙ sym (number-told sh shape l q′ taken′ i′ e′))
     (objects-told sh shape l q taken i e ∙ objects ∙ sym (objects-told sh shape l q′ taken′ i′ e′))

@@ -12,8 +12,9 @@ use lib.Dec.{eqb, leb}
 use lib.ListN.{length}
 use Rattle.lists.specs.Tests.{and-l, and-r, or-l, or-r, clash}
 use Rattle.lists.specs.Sets.{all, mem, meets, within, ascendingSet, any-set}
-use Rattle.model.specs.Objects.{Shape, okShape}
+use Rattle.model.specs.Objects.{Shape}
 use Rattle.model.specs.Entries.{Decision, Write, Read, Claim, Entry, plain, numbered, commit, decision, checkpoint, blank, Effect, writes, aside, tries, inert, effect, Log, writtenObjects, readObjects, writesOf, outcomeAfter, decided, headerObjects}
+use Rattle.model.specs.Slot.{okShape}
 use Rattle.model.specs.Rules.{okWrite}
 use Rattle.model.specs.Table.{Cell, Holds, lookup, apply, versionIn}
 use Rattle.model.specs.Play.{Played, going, waits, lacks, commitsOver, alone, saysCommit, outcome, make, finish, act, step, andThen, play}

@@ -13,7 +13,7 @@ use Rattle.lists.specs.First.{first, firstFrom}
 use Rattle.lists.specs.Equal.{eqList}
 use Rattle.model.specs.Objects.{depots, isObject, isCell, isMarked, hosted}
 use Rattle.model.specs.Entries.{Held, writesOf, closed, decided, headerObjects, numberOf, earlier}
-use Rattle.model.specs.Slot.{writeBytes, writeAt, readBytes, readAt, savedBytes, savedAt, itemBytes, itemCount, headerOf, slotOf, decode, slot, logIn, slotSize, objectsIn}
+use Rattle.model.specs.Slot.{writeBytes, writeAt, readBytes, readAt, savedBytes, savedAt, itemBytes, itemCount, headerOf, slotOf, decode, slot, logIn, objectsIn}
 use Rattle.model.specs.Rules.{okEntry, lowest, lowestBad, okWrite, okWrites, okRead, okReads, okSaved, narrow, goodAt, repeats}
 use Rattle.model.specs.Table.{Cell, cellAt, cellBytes, cellsOf, tableWith, apply, savedOf, lookup, store}
 use Rattle.model.specs.Play.{play, commitsOver, step}
@@ -47,14 +47,14 @@ saved = saves (record { hosting = 255; position = 3; count = 1 }) (holding (cell
 -- six slots of junk; the commit record of 9 is at 2, the checkpoint at 3, the decision at 4, the commit record of 10 at 5
 abbrev pub met : History
 met = record {
-  bytes = replicate (slotSize * 6) 7;
+  bytes = replicate (depots .slotSize * 6) 7;
   requests = update 9 (put 5 1 6) ∷ update 10 (put 5 1 7) ∷ unasked ∷ commits 9 (read 2 7 0) ∷ saved ∷ decides 2 1 ∷ commits 10 (read 5 1 0) ∷ [];
 }
 
 -- ---- the log (what a `let` binds is computed once, and the calls of the demands are the same without it)
 
 abbrev audits : Lent → Answer (Unit {0})
-audits l = let log = inLog l in audit depots log table .answer
+audits l = let log = inLog depots l in audit depots log table .answer
 
 audits-so : audits (wholeLog depots met) ≡ done tt
 unfolding beAt bytesOf splice values joined first firstFrom eqList writesOf closed decided headerObjects repeats objectsIn earlier writeBytes writeAt readBytes readAt savedBytes savedAt itemBytes itemCount headerOf slotOf decode slot logIn okEntry lowest lowestBad cellAt cellBytes cellsOf tableWith apply savedOf play commitsOver entryOf ownTests append openFresh openAt playCall readCell audit accept runAt grown feed isObject isCell isMarked hosted okWrite okWrites okRead okReads okSaved narrow goodAt lookup store step badFrame
@@ -112,7 +112,7 @@ unfolding beAt bytesOf splice values joined first firstFrom eqList writesOf clos
 opens-fresh = refl
 
 abbrev opensAt : Lent → ℕ → Option Carried
-opensAt l o = let log = inLog l in ifOpened (openAt depots log o table)
+opensAt l o = let log = inLog depots l in ifOpened (openAt depots log o table)
 
 opens-at : opensAt (stood depots met 5) 3 ≡ some saved5
 unfolding beAt bytesOf splice values joined first firstFrom eqList writesOf closed decided headerObjects repeats objectsIn earlier writeBytes writeAt readBytes readAt savedBytes savedAt itemBytes itemCount headerOf slotOf decode slot logIn okEntry lowest lowestBad cellAt cellBytes cellsOf tableWith apply savedOf play commitsOver entryOf ownTests append openFresh openAt playCall readCell audit accept runAt grown feed isObject isCell isMarked hosted okWrite okWrites okRead okReads okSaved narrow goodAt lookup store step badFrame
@@ -138,7 +138,7 @@ abbrev pub arrived : Left
 arrived = record { answer = done tt; replica = record { hosting = 16; position = 6; count = 1 }; table = holding (cell 5 1 (some 6) 3) }
 
 abbrev playing : Lent → Carried → ℕ → Left
-playing l r stop = let log = inLog l in playCall depots log (r .replica) (r .table) stop
+playing l r stop = let log = inLog depots l in playCall depots log (r .replica) (r .table) stop
 
 early-left : playing (stood depots met 5) fresh5 4 ≡ waiting
 unfolding beAt bytesOf splice values joined first firstFrom eqList writesOf closed decided headerObjects repeats objectsIn earlier writeBytes writeAt readBytes readAt savedBytes savedAt itemBytes itemCount headerOf slotOf decode slot logIn okEntry lowest lowestBad cellAt cellBytes cellsOf tableWith apply savedOf play commitsOver entryOf ownTests append openFresh openAt playCall readCell audit accept runAt grown feed isObject isCell isMarked hosted okWrite okWrites okRead okReads okSaved narrow goodAt lookup store step badFrame
