@@ -2,3 +2,4 @@ pub mod Cells
 pub mod Marks
 pub mod Table
 pub mod Same
+pub mod Eight
