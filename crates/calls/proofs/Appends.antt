@@ -9,14 +9,14 @@ use native.Mathlib.Omega.{arith}
 use lib.ListN.{length, take, drop}
 use Rattle.lists.specs.Tests.{clash}
 use Rattle.model.specs.Objects.{depots}
-use Rattle.model.specs.Slot.{slotSize}
 use Rattle.model.specs.Rules.{lowestBad}
-use Rattle.model.specs.Answers.{Answer, done, refused, refuse, refuseAt, firstOf, answer, badFrame}
+use Rattle.model.specs.Answers.{Answer, done, refused, refuse, refuseAt, firstOf, answer}
 use Rattle.model.specs.Reading as reading
 use Rattle.model.specs.Append as model
-use Rattle.model.specs.Histories.{Lent, inLog, tailAfter, isRefused, appendTo, after, Accepted, grown}
+use Rattle.model.specs.Histories.{Lent, tailAfter, isRefused, appendTo, after, Accepted, grown}
 use Rattle.model.specs.Claims.{headerObjectsIn, NumberGiven, ObjectsGiven, ItemsGiven, Back, WroteOneSlot}
 use Rattle.claims.proofs.Depots.{demand2-depots}
+use Rattle.codec.specs.Eight.{slotSize, badFrame, inLog}
 use Rattle.entries.specs.declared.calls.Info.{Info}
 use Rattle.entries.specs.declared.calls.Found as finds
 use Rattle.entries.specs.declared.calls.Found.the-variants as found

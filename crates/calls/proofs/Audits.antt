@@ -5,10 +5,10 @@ use mathlib.Core.List.{List}
 use Rattle.model.specs.Objects.{depots}
 use Rattle.model.specs.Replica.{Left, audit}
 use Rattle.model.specs.Run.{Run}
-use Rattle.model.specs.Histories.{Lent, inLog, wholeLog, ranTo}
-use Rattle.model.specs.Conditions.{Framed}
+use Rattle.model.specs.Histories.{Lent, wholeLog, ranTo}
 use Rattle.model.specs.Claims.{Audits}
 use Rattle.claims.proofs.Depots.{audits-depots, never-waits-depots}
+use Rattle.codec.specs.Eight.{inLog, Framed}
 use Rattle.answers.specs.Refusals.{checkedIn}
 use Rattle.calls.specs.Values.{lastLog, ran, scratch}
 use Rattle.calls.specs.Claims.{CallsAudit, CallsNeverWait}

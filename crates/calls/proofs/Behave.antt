@@ -15,10 +15,11 @@ use Rattle.model.specs.Append.{commits, claimGiven}
 use Rattle.model.specs.Replica as model
 use Rattle.model.specs.Run.{Run}
 use Rattle.model.specs.Histories as model-histories
-use Rattle.model.specs.Histories.{Lent, inLog, isRefused, Accepted, grown, History, stood, ranTo, Passed, Carried, Opening, ifOpened, ifFresh, carried, Play, playOn, played, plays, opened, cellsWritten}
+use Rattle.model.specs.Histories.{Lent, isRefused, Accepted, grown, History, stood, ranTo, Passed, Carried, Opening, ifOpened, ifFresh, carried, Play, playOn, played, plays, opened, cellsWritten}
 use Rattle.model.specs.Conditions.{Stale, Concerns, Fit, Ended}
 use Rattle.model.specs.Claims.{Waiting, SameOutcome, Shows}
 use Rattle.claims.proofs.Depots.{demand2-depots, demand3-depots}
+use Rattle.codec.specs.Eight.{inLog}
 use Rattle.answers.specs.Refusals.{checkedIn}
 use Rattle.append.specs.Answers.{tailIn}
 use Rattle.replica.specs.Answers.{openedIn, readIn}

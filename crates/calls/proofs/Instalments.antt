@@ -17,10 +17,10 @@ use Rattle.model.specs.Slot.{logIn, mostSlots}
 use Rattle.model.specs.Rules.{okWrite, okWrites, okEntry, lowestBad}
 use Rattle.model.specs.Table.{Cell, cellsOf, tableWith, capacity, apply, cellSize}
 use Rattle.model.specs.Play.{Played, going, waits, lacks, cellsIn, versionAt, outcome, make, finish, act, step, andThen, play}
-use Rattle.model.specs.Answers.{Refusal, done, refuse, frameAndEntries, badFrame}
+use Rattle.model.specs.Answers.{Refusal, done, refuse, frameAndEntries, badFrame as model-badFrame}
 use Rattle.model.specs.Append.{Replica, badReplica}
 use Rattle.model.specs.Replica as model
-use Rattle.model.specs.Histories.{inLog, playOn}
+use Rattle.model.specs.Histories.{playOn}
 use Rattle.model.specs.Claims.{Bytes}
 use Rattle.records.specs.Record.{replicaIn}
 use Rattle.calls.specs.Values.{carry, stopOf, kept}
@@ -34,20 +34,21 @@ use Rattle.laws.proofs.Refusals.{all-pass, refuse-none, refuseAt-none}
 use Rattle.laws.proofs.Room.{play-fits, length-with}
 use Rattle.claims.proofs.Audits.{tail-small}
 use Rattle.claims.proofs.Reached.{play-on, standsAt, Reached, play-reached}
+use Rattle.codec.specs.Eight.{badFrame, inLog}
 use Rattle.table.specs.Stored.{table-again}
 use Rattle.player.specs.MakeLaws.{apply-fits}
 use Rattle.player.specs.PlayLaws.{step-grows}
 
 module _ (log : Log) (set : List ℕ) (room : ℕ) where
   abbrev go-on : ℕ → List Cell → ℕ → Played
-  go-on p cs n = play log set room p cs n
+  go-on p cs n = play depots log set room p cs n
 
   play-grows : (p : ℕ) (cs : List Cell) (n : ℕ) → length cs ≤ length (cellsIn (go-on p cs n))
   unfolding play
   play-grows p cs zero = omega arith
   play-grows p cs (suc n) = go (go-on p cs n) (play-grows p cs n)
     where
-      go : (x : Played) → length cs ≤ length (cellsIn x) → length cs ≤ length (cellsIn (andThen x (step log set room (p + n))))
+      go : (x : Played) → length cs ≤ length (cellsIn x) → length cs ≤ length (cellsIn (andThen x (step depots log set room (p + n))))
       go (going ds) h = omega (arith, h, step-grows log set room (p + n) ds)
       go (waits q ds) h = h
       go (lacks q ds) h = h
@@ -55,7 +56,7 @@ module _ (log : Log) (set : List ℕ) (room : ℕ) where
   -- ---- the cells of a play fit their fields
 
   module _ (kept : Kept depots log (log .tail)) (few : log .tail ≤ mostSlots) where
-    step-fit : (p : ℕ) (cs : List Cell) → p < log .tail → all fitsCell cs ≡ true → all fitsCell (cellsIn (step log set room p cs)) ≡ true
+    step-fit : (p : ℕ) (cs : List Cell) → p < log .tail → all fitsCell cs ≡ true → all fitsCell (cellsIn (step depots log set room p cs)) ≡ true
     unfolding step okEntry okWrites
     step-fit p cs l f = go (meets set (headerObjects log p (log .entry p)))
       where
@@ -71,15 +72,15 @@ module _ (log : Log) (set : List ℕ) (room : ℕ) where
         tried ws ok (some true) = made ws ok
         tried ws ok (some false) = f
 
-        on : (e : Entry) → okEntry depots log p e ≡ true → all fitsCell (cellsIn (act log set room p cs (effect e))) ≡ true
+        on : (e : Entry) → okEntry depots log p e ≡ true → all fitsCell (cellsIn (act depots log set room p cs (effect e))) ≡ true
         on (plain ws) h = made ws (search ands)
         on (numbered n ws) h = f
-        on (commit n c) h = tried (writesOf log n p) (writes-ok depots log n p (λ o m. kept o (omega arith))) (outcome log set p cs c)
-        on (decision o v) h = f
+        on (commit n c) h = tried (writesOf log n p) (writes-ok depots log n p (λ o m. kept o (omega arith))) (outcome depots log set p cs c)
+        on (decision r) h = f
         on (checkpoint o ds) h = f
         on blank h = f
 
-        go : (b : Bool) → all fitsCell (cellsIn (cond b (act log set room p cs (effect (log .entry p))) (going cs))) ≡ true
+        go : (b : Bool) → all fitsCell (cellsIn (cond b (act depots log set room p cs (effect (log .entry p))) (going cs))) ≡ true
         go true = on (log .entry p) (kept p l)
         go false = f
 
@@ -88,7 +89,7 @@ module _ (log : Log) (set : List ℕ) (room : ℕ) where
     play-fit p cs zero l f = f
     play-fit p cs (suc n) l f = go (go-on p cs n) (play-fit p cs n (omega arith) f)
       where
-        go : (x : Played) → all fitsCell (cellsIn x) ≡ true → all fitsCell (cellsIn (andThen x (step log set room (p + n)))) ≡ true
+        go : (x : Played) → all fitsCell (cellsIn x) ≡ true → all fitsCell (cellsIn (andThen x (step depots log set room (p + n)))) ≡ true
         go (going ds) h = step-fit (p + n) ds (omega arith) h
         go (waits q ds) h = h
         go (lacks q ds) h = h
@@ -116,7 +117,7 @@ module _ (log : Log) where
       λ j. record { answer = model.plainly 13; replica = record { hosting = set; position = q; count = length ds }; table = table-again t cs ds h j }
 
   -- a first play that nothing refused, as it stands at q with the cells cs
-  left-at : (set stop : ℕ) (t : List ℕ) (x : Played) → model.leftBy set stop t x .replica ≡ record { hosting = set; position = standsAt log [] 0 stop x; count = length (cellsIn x) }
+  left-at : (set stop : ℕ) (t : List ℕ) (x : Played) → model.leftBy set stop t x .replica ≡ record { hosting = set; position = standsAt depots log [] 0 stop x; count = length (cellsIn x) }
   left-at set stop t (going cs) = refl
   left-at set stop t (waits q cs) = refl
   left-at set stop t (lacks q cs) = refl
@@ -135,7 +136,7 @@ module _ (log : Log) where
 
     -- the offset and the cells at which the first play stands
     abbrev at : ℕ
-    at = standsAt log [] 0 a first
+    at = standsAt depots log [] 0 a first
 
     abbrev cells : List Cell
     cells = cellsIn first
@@ -150,41 +151,41 @@ module _ (log : Log) where
       counted : r .count ≤ capacity t
       counted = ltb-false (capacity t) (r .count) (search ors)
 
-      reached : Reached log set (capacity t) (r .position) (cellsOf t (r .count)) (a - r .position) at cells
+      reached : Reached depots log set (capacity t) (r .position) (cellsOf t (r .count)) (a - r .position) at cells
       reached =
           let e : r .position + (a - r .position) ≡ a = omega (arith, on) in
-          subst (λ (n : ℕ). Reached log set (capacity t) (r .position) (cellsOf t (r .count)) (a - r .position) (standsAt log [] 0 n first) cells) e
-          (play-reached log set (capacity t) (r .position) (cellsOf t (r .count)) (a - r .position))
+          subst (λ (n : ℕ). Reached depots log set (capacity t) (r .position) (cellsOf t (r .count)) (a - r .position) (standsAt depots log [] 0 n first) cells) e
+          (play-reached depots log set (capacity t) (r .position) (cellsOf t (r .count)) (a - r .position))
 
       before : at ≤ a
       before = omega (arith, reached .to, on)
 
       few : length cells ≤ capacity t
-      few = play-fits log set (capacity t) (r .position) (cellsOf t (r .count)) (a - r .position) (omega (arith, length-cells t (r .count), counted))
+      few = play-fits depots log set (capacity t) (r .position) (cellsOf t (r .count)) (a - r .position) (omega (arith, length-cells t (r .count), counted))
 
       size : length (tableWith t cells) ≡ length t
       size = length-with t cells few
 
       fit : all fitsCell cells ≡ true
-      fit = play-fit log set (capacity t) (good-kept depots log g) (tail-small log f) (r .position) (cellsOf t (r .count)) (a - r .position)
+      fit = play-fit log set (capacity t) (good-kept depots log g) (tail-small depots log f) (r .position) (cellsOf t (r .count)) (a - r .position)
           (omega (arith, on)) (cells-fit t bytes (r .count))
 
       -- the second play goes on from there
-      second : model.playFrom depots log next (tableWith t cells) b ≡ play log set (capacity t) at cells (b - at)
+      second : model.playFrom depots log next (tableWith t cells) b ≡ play depots log set (capacity t) at cells (b - at)
       second =
-          ap (λ (n : ℕ). play log set (n / cellSize) at (cellsOf (tableWith t cells) (length cells)) (b - at)) size
-          ∙ ap (λ (cs : List Cell). play log set (capacity t) at cs (b - at)) (cells-back t cells fit)
+          ap (λ (n : ℕ). play depots log set (n / cellSize) at (cellsOf (tableWith t cells) (length cells)) (b - at)) size
+          ∙ ap (λ (cs : List Cell). play depots log set (capacity t) at cs (b - at)) (cells-back t cells fit)
 
       -- and so does the whole one
-      whole : model.playFrom depots log r t b ≡ play log set (capacity t) at cells (b - at)
+      whole : model.playFrom depots log r t b ≡ play depots log set (capacity t) at cells (b - at)
       whole =
           let p = r .position in
           let e : b - p ≡ (at - p) + (b - at) = omega (arith, reached .from, before) in
           let h : p + (at - p) ≡ at = omega (arith, reached .from) in
-          ap (play log set (capacity t) p (cellsOf t (r .count))) e
-          ∙ play-on log set (capacity t) p (cellsOf t (r .count)) (at - p) (b - at)
-          ∙ ap (λ (x : Played). andThen x (λ ds. play log set (capacity t) (p + (at - p)) ds (b - at))) (reached .by)
-          ∙ ap (λ (n : ℕ). play log set (capacity t) n cells (b - at)) h
+          ap (play depots log set (capacity t) p (cellsOf t (r .count))) e
+          ∙ play-on depots log set (capacity t) p (cellsOf t (r .count)) (at - p) (b - at)
+          ∙ ap (λ (x : Played). andThen x (λ ds. play depots log set (capacity t) (p + (at - p)) ds (b - at))) (reached .by)
+          ∙ ap (λ (n : ℕ). play depots log set (capacity t) n cells (b - at)) h
 
       -- nothing refuses either of them
       next-fits : badReplica (log .tail) next (tableWith t cells) ≡ false
@@ -203,12 +204,12 @@ module _ (log : Log) where
       goes-on =
           runs next (tableWith t cells) b f g next-fits next-stop
           ∙ ap (model.leftBy (r .hosting) b (tableWith t cells)) second
-          ∙ left-again (r .hosting) b t cells (play log set (capacity t) at cells (b - at)) (play-grows log set (capacity t) at cells (b - at))
+          ∙ left-again (r .hosting) b t cells (play depots log set (capacity t) at cells (b - at)) (play-grows log set (capacity t) at cells (b - at))
           ∙ ap (model.leftBy (r .hosting) b t) (sym whole)
           ∙ sym (runs r t b f g c whole-stop)
 
     pub instalments : model.playCall depots log (model.playCall depots log r t a .replica) (model.playCall depots log r t a .table) b ≡ model.playCall depots log r t b
-    unfolding model.playCall badFrame
+    unfolding model.playCall model-badFrame
     instalments = go (model.playRefusal depots log r t a) refl
       where
         go : (z : Option Refusal) → model.playRefusal depots log r t a ≡ z

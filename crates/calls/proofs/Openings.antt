@@ -9,10 +9,11 @@ use Rattle.model.specs.Objects.{depots}
 use Rattle.model.specs.Answers.{Answer, done, refused}
 use Rattle.model.specs.Append.{Replica}
 use Rattle.model.specs.Replica.{Left}
-use Rattle.model.specs.Histories.{inLog, isRefused}
+use Rattle.model.specs.Histories.{isRefused}
 use Rattle.model.specs.Claims.{OpenedAt}
 use Rattle.claims.proofs.Depots.{opens-at-depots, opens-wherever-depots}
 use Rattle.claims.proofs.Opened.{opens-fresh}
+use Rattle.codec.specs.Eight.{inLog}
 use Rattle.answers.specs.Refusals.{checkedIn}
 use Rattle.records.specs.declared.Record.{Record}
 use Rattle.records.specs.Record.{replicaIn}

@@ -8,7 +8,8 @@ use Rattle.model.specs.Objects.{depots}
 use Rattle.model.specs.Append as model
 use Rattle.model.specs.Reading.{check, entryCall, itemList, itemsFrom}
 use Rattle.model.specs.Replica as model-replica
-use Rattle.model.specs.Histories.{Lent, inLog, playOn}
+use Rattle.model.specs.Histories.{Lent, playOn}
+use Rattle.codec.specs.Eight.{inLog}
 use Rattle.entries.specs.Answers.{foundIn, further}
 use Rattle.answers.specs.Refusals.{checkedIn}
 use Rattle.append.specs.Answers.{tailIn}

@@ -11,16 +11,16 @@ use lib.ListN.{length, take, drop}
 use Rattle.lists.specs.Sets.{mem, ascending}
 use Rattle.model.specs.Objects.{theObjects, depots, isCell, hosted}
 use Rattle.model.specs.Entries.{Write, Read, Held, Saved, Claim, commit as commits-at, checkpoint as checkpoint-at}
-use Rattle.model.specs.Slot.{slotSize}
 use Rattle.model.specs.Table.{capacity, versionIn}
 use Rattle.model.specs.Answers.{done}
 use Rattle.model.specs.Reading.{itemsFrom}
 use Rattle.model.specs.Append.{commits, claimGiven}
 use Rattle.model.specs.Replica.{plainly}
 use Rattle.model.specs.Run.{madeAll}
-use Rattle.model.specs.Histories.{Lent, inLog, isRefused, cellsWritten}
-use Rattle.model.specs.Conditions.{Framed, AllGood, Stale, Concerns, Blocked, Fit, Playable, Ended, Makes, Unstopped}
+use Rattle.model.specs.Histories.{Lent, isRefused, cellsWritten}
+use Rattle.model.specs.Conditions.{AllGood, Stale, Concerns, Blocked, Fit, Playable, Ended, Makes, Unstopped}
 use Rattle.model.specs.Claims.{Bytes, Waiting, doneWith, kindGiven, NumberGiven, ObjectsGiven, ItemsGiven, headerObjectsIn, Alone, AbortsAlone, Audits, OpenedAt}
+use Rattle.codec.specs.Eight.{slotSize, inLog, Framed}
 use Rattle.answers.specs.declared.Checked.the-variants as checked
 use Rattle.entries.specs.declared.calls.Info.{Info}
 use Rattle.entries.specs.declared.calls.Found.the-variants as found

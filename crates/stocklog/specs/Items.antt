@@ -9,13 +9,14 @@ use lib.ListN.{take}
 use borrow.Author.Tests.{leb-false}
 use Rattle.model.specs.Objects.{depots}
 use Rattle.model.specs.Entries.{Log}
-use Rattle.model.specs.Slot.{slot, logIn, logOf, mostSlots, slotSize}
+use Rattle.model.specs.Slot.{logIn, mostSlots}
 use Rattle.model.specs.Rules.{lowestBad}
-use Rattle.model.specs.Answers.{Refusal, done, refuse, refuseAt, firstOf, answer, badFrame}
-use Rattle.model.specs.Reading.{Info, infoIn, entryRefusal, entryCall, stretch, orEmpty, itemList}
+use Rattle.model.specs.Answers.{Refusal, done, refuse, refuseAt, firstOf, answer}
+use Rattle.model.specs.Reading.{Info, infoIn as model-infoIn, entryRefusal, entryCall, orEmpty, itemList}
 use Rattle.laws.specs.Good.{GoodBelow}
 use Rattle.laws.proofs.Good.{good-all}
 use Rattle.laws.proofs.Refusals.{not-none, refuse-none, refuseAt-none}
+use Rattle.codec.specs.Eight.{slot, logOf, slotSize, badFrame, infoIn, stretch}
 use Rattle.scans.specs.Access.{Framed}
 use Rattle.entries.specs.Calls.{told, told-answer, frame-is}
 use Rattle.entries.specs.Entry.{items-lie}
@@ -58,7 +59,7 @@ module _ (bytes : List ℕ) (tail o : ℕ) where
       omega (arith, below n, framed n .1)
 
   pub items-part : partSaid (itemsReply o (entryCall depots log o)) bytes ≡ itemList depots log o
-  unfolding entryCall itemList infoIn logIn
+  unfolding entryCall itemList model-infoIn logIn
   items-part = go (entryRefusal depots log o) refl
     where
       go : (x : Option Refusal) → entryRefusal depots log o ≡ x → partSaid (itemsReply o (answer x (infoIn s))) bytes ≡ orEmpty x (stretch s)

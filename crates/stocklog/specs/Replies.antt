@@ -8,9 +8,10 @@ use Rattle.model.specs.Slot.{itemSize}
 use Rattle.model.specs.Objects.{Shape}
 use Rattle.model.specs.Entries.{Held, Log}
 use Rattle.model.specs.Answers.{Answer, done, refused}
-use Rattle.model.specs.Reading.{Header, Info, entryCall, itemsAt, Next, Listed}
+use Rattle.model.specs.Reading.{Header, Info, entryCall, Next, Listed}
 use Rattle.model.specs.Append.{Replica, Appended}
 use Rattle.model.specs.Replica.{Left}
+use Rattle.codec.specs.Eight.{itemsAt}
 
 -- the three values of `out`
 pub record Values : Type 0 where

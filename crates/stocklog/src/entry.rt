@@ -1,8 +1,8 @@
 // The calls that read one entry: its fields, one of its headers, where its items lie.
 ghost use mathlib.Core.Path.{_≡_};
 ghost use Rattle.model.specs.Objects.{depots};
-ghost use Rattle.model.specs.Slot.{logOf};
 ghost use Rattle.model.specs.Reading.{entryCall, itemList};
+ghost use Rattle.codec.specs.Eight.{logOf};
 ghost use Rattle.codec.specs.Marks.{kindOf};
 ghost use Rattle.entries.specs.Answers.{headerOf, infoOf, foundIn};
 ghost use Rattle.stocklog.specs.Replies.{reply, coded, noValues, infoValues, itemsTold, entryReply, nth, headerIn, headerCall, headerValues, headerReply, itemsReply, partSaid};

@@ -1,8 +1,8 @@
 // The calls that read a whole log.
 ghost use mathlib.Core.Path.{_≡_};
 ghost use Rattle.model.specs.Objects.{depots};
-ghost use Rattle.model.specs.Slot.{logOf};
 ghost use Rattle.model.specs.Reading.{check, owed};
+ghost use Rattle.codec.specs.Eight.{logOf};
 ghost use Rattle.entries.specs.Answers.{owedIn};
 ghost use Rattle.answers.specs.Refusals.{checkedIn};
 ghost use Rattle.stocklog.specs.Replies.{checkReply, owedReply};

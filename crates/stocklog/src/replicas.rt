@@ -2,8 +2,8 @@
 ghost use mathlib.Core.Path.{_≡_};
 ghost use mathlib.Core.Option.{some};
 ghost use Rattle.model.specs.Objects.{depots};
-ghost use Rattle.model.specs.Slot.{logOf};
 ghost use Rattle.model.specs.Replica.{openFresh, openAt, playCall, readCell, audit};
+ghost use Rattle.codec.specs.Eight.{logOf};
 ghost use Rattle.codec.specs.Cells.{heldOf};
 ghost use Rattle.answers.specs.Refusals.{checkedIn};
 ghost use Rattle.records.specs.Record.{replicaIn};

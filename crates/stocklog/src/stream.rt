@@ -1,8 +1,8 @@
 // The calls that read an object's stream.
 ghost use mathlib.Core.Path.{_≡_};
 ghost use Rattle.model.specs.Objects.{depots};
-ghost use Rattle.model.specs.Slot.{logOf};
 ghost use Rattle.model.specs.Reading.{streamNext, streamList};
+ghost use Rattle.codec.specs.Eight.{logOf};
 ghost use Rattle.entries.specs.Answers.{nextIn, countIn};
 ghost use Rattle.stocklog.specs.Replies.{nextReply, numberReply, listReply};
 ghost use Rattle.stocklog.specs.Numbers.{numbersIn};
