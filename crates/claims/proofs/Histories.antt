@@ -145,18 +145,18 @@ module _ (sh : Shape) (shape : okShape sh ≡ true) where
 
 -- ---- the log as it stood
 
-frame-below : (sh : Shape) (old new : Log) → badFrame sh new ≡ false → new .size ≡ old .size → old .tail ≤ new .tail → badFrame sh old ≡ false
+frame-below : (sh : Shape) (old new : Log) → badFrame sh.layout new ≡ false → new .size ≡ old .size → old .tail ≤ new .tail → badFrame sh.layout old ≡ false
 unfolding badFrame
 frame-below sh old new e s l =
-    let whole : (not (eqb (old .size % sh .slotSize) 0) || ltb mostSlots (slots sh old)) ≡ false = rw (← s) (or-l _ (ltb (slots sh new) (new .tail)) e) in
-    let high : ltb (slots sh new) (new .tail) ≡ false = or-r (not (eqb (new .size % sh .slotSize) 0) || ltb mostSlots (slots sh new)) (ltb (slots sh new) (new .tail)) e in
-    neither whole (le-ltb (slots sh old) (old .tail) (omega (arith, ltb-false (slots sh new) (new .tail) high, ap (λ (n : ℕ). n / sh .slotSize) s)))
+    let whole : (not (eqb (old .size % sh .layout .slotSize) 0) || ltb mostSlots (slots sh.layout old)) ≡ false = rw (← s) (or-l _ (ltb (slots sh.layout new) (new .tail)) e) in
+    let high : ltb (slots sh.layout new) (new .tail) ≡ false = or-r (not (eqb (new .size % sh .layout .slotSize) 0) || ltb mostSlots (slots sh.layout new)) (ltb (slots sh.layout new) (new .tail)) e in
+    neither whole (le-ltb (slots sh.layout old) (old .tail) (omega (arith, ltb-false (slots sh.layout new) (new .tail) high, ap (λ (n : ℕ). n / sh .layout .slotSize) s)))
 
 -- a log as it stood when the whole log had a lower tail
 pub record Stood (sh : Shape) (whole log : Log) : Type 0 where
   pub tails : log .tail ≤ whole .tail
   pub agrees : Agree log whole (log .tail)
-  pub frame : badFrame sh log ≡ false
+  pub frame : badFrame sh.layout log ≡ false
   pub good : lowestBad sh log ≡ none
   pub truths : TrueBelow log (log .tail)
 
