@@ -123,7 +123,7 @@ pub tail-small : (sh : Shape) (log : Log) → badFrame sh.layout log ≡ false �
 unfolding badFrame
 tail-small sh log e =
     let a : ltb (slots sh.layout log) (log .tail) ≡ false = search ors in
-    omega (arith, frame-few sh log e, ltb-false (slots sh.layout log) (log .tail) a)
+    omega (arith, frame-few sh.layout log e, ltb-false (slots sh.layout log) (log .tail) a)
 
 -- a play that goes on to the tail went on to every offset below
 pub goes-back : (sh : Shape) (log : Log) (room d : ℕ) → isGoing (auditPlay sh log room (log .tail)) ≡ true → d ≤ log .tail → isGoing (auditPlay sh log room d) ≡ true

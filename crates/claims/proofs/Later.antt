@@ -8,7 +8,7 @@ use native.Mathlib.Nat.{mul-le-mul-left}
 use native.Mathlib.Omega.{arith}
 use lib.ListN.{take, drop}
 use lib.Seq.{take-take, take-nil}
-use Rattle.model.specs.Objects.{Shape}
+use Rattle.model.specs.Objects.{Layout, Shape}
 use Rattle.model.specs.Slot.{slot, okShape}
 use Rattle.model.specs.Answers.{Answer, done, refused, badFrame}
 use Rattle.model.specs.Append.{Request}
@@ -25,12 +25,12 @@ part-taken zero (suc d) k (x ∷ b) h = absurd (omega arith)
 part-taken (suc n) (suc d) k (x ∷ b) h = part-taken n d k b (omega arith)
 
 -- a slot below the lower of two tails, in bytes that are the same up to it
-pub slot-later : (sh : Shape) (a b : List ℕ) (m n o : ℕ) → o < m → m ≤ n → take (sh .layout .slotSize * m) b ≡ take (sh .layout .slotSize * m) a → slot sh.layout (take (sh .layout .slotSize * n) b) o ≡ slot sh.layout (take (sh .layout .slotSize * m) a) o
+pub slot-later : (ly : Layout) (a b : List ℕ) (m n o : ℕ) → o < m → m ≤ n → take (ly .slotSize * m) b ≡ take (ly .slotSize * m) a → slot ly (take (ly .slotSize * n) b) o ≡ slot ly (take (ly .slotSize * m) a) o
 unfolding slot
-slot-later sh a b m n o h l e =
-    part-taken (sh .layout .slotSize * n) (sh .layout .slotSize * o) (sh .layout .slotSize) b (slot-ends (sh .layout .slotSize) o n (omega arith))
-    ∙ sym (part-taken (sh .layout .slotSize * m) (sh .layout .slotSize * o) (sh .layout .slotSize) b (slot-ends (sh .layout .slotSize) o m h))
-    ∙ ap (λ (t : List ℕ). take (sh .layout .slotSize) (drop (sh .layout .slotSize * o) t)) e
+slot-later ly a b m n o h l e =
+    part-taken (ly .slotSize * n) (ly .slotSize * o) (ly .slotSize) b (slot-ends (ly .slotSize) o n (omega arith))
+    ∙ sym (part-taken (ly .slotSize * m) (ly .slotSize * o) (ly .slotSize) b (slot-ends (ly .slotSize) o m h))
+    ∙ ap (λ (t : List ℕ). take (ly .slotSize) (drop (ly .slotSize * o) t)) e
 
 -- ---- the log
 

@@ -15,7 +15,7 @@ use Rattle.lists.specs.Members.{mem-map, map-mem}
 use Rattle.lists.specs.Rows.{map-values}
 use Rattle.lists.specs.Bytes.{beAt}
 use Rattle.lists.specs.Splice.{splice}
-use Rattle.model.specs.Objects.{Shape}
+use Rattle.model.specs.Objects.{Layout, Shape}
 use Rattle.model.specs.Entries.{Write, commit, Log, writesOf, writtenObjects, commitObjects, headerObjects, numberOf}
 use Rattle.model.specs.Slot.{objectsIn, markOf, itemBytes, itemCount, slotOf, slot, logIn, headerSize, headersBegin, itemSize, itemsBegin, okShape}
 use Rattle.model.specs.Rules.{lowestBad}
@@ -49,9 +49,9 @@ kind-marked log s (saves r table o) e = rw e
 
 -- ---- the header objects
 
-objects-told : (sh : Shape) (s : List ℕ) → headerObjectsIn (infoIn sh.layout s) ≡ objectsIn sh.layout s
+objects-told : (ly : Layout) (s : List ℕ) → headerObjectsIn (infoIn ly s) ≡ objectsIn ly s
 unfolding infoIn objectsIn
-objects-told sh s = map-values (λ (x : Header). x .object) (λ i. headerAt s (headersBegin + headerSize sh.layout * i)) 0 (beAt 1 s 2)
+objects-told ly s = map-values (λ (x : Header). x .object) (λ i. headerAt s (headersBegin + headerSize ly * i)) 0 (beAt 1 s 2)
 
 -- ---- what was given
 
@@ -140,7 +140,7 @@ module _ (sh : Shape) (shape : okShape sh ≡ true) (l : Lent) (q : Request) (ta
 
   pub objects-are : headerObjectsIn (infoIn sh.layout itsSlot) ≡ headerObjects (inLog sh l) (l .tail) (entryOf (inLog sh l) q)
   objects-are =
-      objects-told sh itsSlot
+      objects-told sh.layout itsSlot
       ∙ objects-read sh shape (inLog sh l) (l .tail) (entryOf (inLog sh l) q) few-headers (headers-small sh shape (inLog sh l) (l .tail) (entryOf (inLog sh l) q) kept (exit .obeyed))
 
   -- ---- the calls, some appends later
@@ -165,7 +165,7 @@ module _ (sh : Shape) (shape : okShape sh ≡ true) (l : Lent) (q : Request) (ta
     written : slot sh.layout (inLog sh now .used) (l .tail) ≡ itsSlot
     unfolding logIn
     written =
-        slot-later sh (after sh l q .bytes) (now .bytes) (after sh l q .tail) (now .tail) (l .tail) (omega (arith, tail-after)) (up .tails) (up .same)
+        slot-later sh.layout (after sh l q .bytes) (now .bytes) (after sh l q .tail) (now .tail) (l .tail) (omega (arith, tail-after)) (up .tails) (up .same)
         ∙ ap (λ (t : ℕ). slot sh.layout (take (sh .layout .slotSize * t) (after sh l q .bytes)) (l .tail)) tail-after
         ∙ exit .written
 
