@@ -73,11 +73,11 @@ module _ (sh : Shape) (log : Log) where
             (not-false _ (numbered-if n _ (refuse-none 5 _ (t .1 .1 .1 .0)) d));
       }
 
-  words-update : (n : ℕ) (items : List ℕ) → UpdateAllowed sh log n items → log .tail < slots sh log → AllPass (ownTests sh log (update n items))
+  words-update : (n : ℕ) (items : List ℕ) → UpdateAllowed sh log n items → log .tail < slots sh.layout log → AllPass (ownTests sh log (update n items))
   unfolding ownTests
   words-update n items a free = (
     passing 3 _ given,
-    (passing 5 _ thin, (passing 4 _ still-open, (passing 5 _ together, (passing 9 _ (lt-leb (slots sh log) (log .tail) free), tt)))),
+    (passing 5 _ thin, (passing 4 _ still-open, (passing 5 _ together, (passing 9 _ (lt-leb (slots sh.layout log) (log .tail) free), tt)))),
   )
     where
       given : (notWhole items || not (okWrites sh (writesGiven items)) || not (fits 4 n)) ≡ false
@@ -125,11 +125,11 @@ module _ (sh : Shape) (log : Log) where
         updated = (w, writes-aside log n (log .tail) w m);
       }
 
-  words-commit : (n : ℕ) (items : List ℕ) → CommitAllowed sh log n items → log .tail < slots sh log → AllPass (ownTests sh log (commits n items))
+  words-commit : (n : ℕ) (items : List ℕ) → CommitAllowed sh log n items → log .tail < slots sh.layout log → AllPass (ownTests sh log (commits n items))
   unfolding ownTests
   words-commit n items a free = (
     passing 3 _ given,
-    (passing 4 _ (words-open log n (a .uncommitted)), (passing 6 _ updated, (passing 9 _ (lt-leb (slots sh log) (log .tail) free), tt))),
+    (passing 4 _ (words-open log n (a .uncommitted)), (passing 6 _ updated, (passing 9 _ (lt-leb (slots sh.layout log) (log .tail) free), tt))),
   )
     where
       some : n ≡ 0 → ⊥
@@ -169,11 +169,11 @@ module _ (sh : Shape) (log : Log) where
         undecided = undecided-words log o (log .tail) (not-false _ (refuse-none 8 _ (t .1 .1 .0)));
       }
 
-  words-decision : (o v : ℕ) → DecisionAllowed log o v → log .tail < slots sh log → AllPass (ownTests sh log (decides o v))
+  words-decision : (o v : ℕ) → DecisionAllowed log o v → log .tail < slots sh.layout log → AllPass (ownTests sh log (decides o v))
   unfolding ownTests
   words-decision o v a free = (
     passing 3 _ (neither (lt-leb (log .tail) o (a .below)) (ap not (words-outcome v (a .outcome)))),
-    (passing 7 _ a-commit, (passing 8 _ undecided, (passing 9 _ (lt-leb (slots sh log) (log .tail) free), tt))),
+    (passing 7 _ a-commit, (passing 8 _ undecided, (passing 9 _ (lt-leb (slots sh.layout log) (log .tail) free), tt))),
   )
     where
       a-commit : isNone (commitAt log o) ≡ false
@@ -195,14 +195,14 @@ module _ (sh : Shape) (log : Log) where
         there = omega arith;
         hosts = search (ands, given);
         each = cells-words sh (log .tail) o (cellsOf table (r .count)) (search (ands, given));
-        few = keys-words (sh .items) o (cellsOf table (r .count)) (ltb-false (sh .items) _ (refuse-none 13 _ (t .1 .1 .1 .0)));
+        few = keys-words (sh .layout .items) o (cellsOf table (r .count)) (ltb-false (sh .layout .items) _ (refuse-none 13 _ (t .1 .1 .1 .0)));
       }
 
-  words-checkpoint : (r : Replica) (table : List ℕ) (o : ℕ) → CheckpointAllowed sh log r table o → log .tail < slots sh log → AllPass (ownTests sh log (saves r table o))
+  words-checkpoint : (r : Replica) (table : List ℕ) (o : ℕ) → CheckpointAllowed sh log r table o → log .tail < slots sh.layout log → AllPass (ownTests sh log (saves r table o))
   unfolding ownTests isObject hosted
   words-checkpoint r table o a free = (
     passing 10 _ record-ok,
-    (passing 3 _ (ap not given), (passing 14 _ behind, (passing 13 _ few, (passing 9 _ (lt-leb (slots sh log) (log .tail) free), tt)))),
+    (passing 3 _ (ap not given), (passing 14 _ behind, (passing 13 _ few, (passing 9 _ (lt-leb (slots sh.layout log) (log .tail) free), tt)))),
   )
     where
       cells : List Cell
@@ -219,8 +219,8 @@ module _ (sh : Shape) (log : Log) where
       behind : ltb (r .position) (log .tail) ≡ false
       behind = le-ltb (r .position) (log .tail) (omega (arith, a .there))
 
-      few : ltb (sh .items) (length (savedGiven r table o)) ≡ false
-      few = le-ltb (sh .items) _ (words-keys (sh .items) o cells (a .few))
+      few : ltb (sh .layout .items) (length (savedGiven r table o)) ≡ false
+      few = le-ltb (sh .layout .items) _ (words-keys (sh .layout .items) o cells (a .few))
 
   -- ---- all of them
 
@@ -230,7 +230,7 @@ module _ (sh : Shape) (log : Log) where
   own-words (decides o v) t = decision-words o v t
   own-words (saves r table o) t = checkpoint-words r table o t
 
-  words-own : (q : Request) → Allowed sh log q → log .tail < slots sh log → AllPass (ownTests sh log q)
+  words-own : (q : Request) → Allowed sh log q → log .tail < slots sh.layout log → AllPass (ownTests sh log q)
   words-own (update n items) a free = words-update n items a free
   words-own (commits n items) a free = words-commit n items a free
   words-own (decides o v) a free = words-decision o v a free
@@ -242,9 +242,9 @@ module _ (sh : Shape) (shape : okShape sh ≡ true) (l : Lent) (q : Request) whe
   accepted-words taken =
       let t = all-pass (frameAndEntries sh (inLog sh l) ++ ownTests sh (inLog sh l) q) (passed sh (l .bytes) (l .tail) q taken) in
       record {
-        framed = frame-words sh l (refuse-none 1 (badFrame sh (inLog sh l)) (t .0));
+        framed = frame-words sh l (refuse-none 1 (badFrame sh.layout (inLog sh l)) (t .0));
         good = good-below sh (inLog sh l) (refuseAt-none 2 (lowestBad sh (inLog sh l)) (t .1 .0));
-        free = slots-fit (sh .slotSize) (l .tail) (length (l .bytes)) (has-room sh (inLog sh l) q (t .1 .1));
+        free = slots-fit (sh .layout .slotSize) (l .tail) (length (l .bytes)) (has-room sh (inLog sh l) q (t .1 .1));
         allowed = own-words sh (inLog sh l) q (t .1 .1);
       }
 
@@ -252,9 +252,9 @@ module _ (sh : Shape) (shape : okShape sh ≡ true) (l : Lent) (q : Request) whe
   unfolding logIn
   words-accepted u =
       let good : lowestBad sh (inLog sh l) ≡ none = below-good sh (inLog sh l) (u .good) in
-      let free : l .tail < length (l .bytes) / sh .slotSize = slots-free (sh .slotSize) (l .tail) (length (l .bytes)) (omega (arith, layout sh shape .room)) (u .free) in
+      let free : l .tail < length (l .bytes) / sh .layout .slotSize = slots-free (sh .layout .slotSize) (l .tail) (length (l .bytes)) (omega (arith, layout sh shape .room)) (u .free) in
       let t : appendRefusal sh (inLog sh l) q ≡ none = pass-all (frameAndEntries sh (inLog sh l) ++ ownTests sh (inLog sh l) q)
-      (passing 1 (badFrame sh (inLog sh l)) (words-frame sh shape l (u .framed)), (ap (refuseAt 2) good, words-own sh (inLog sh l) q (u .allowed) free)) in
+      (passing 1 (badFrame sh.layout (inLog sh l)) (words-frame sh shape l (u .framed)), (ap (refuseAt 2) good, words-own sh (inLog sh l) q (u .allowed) free)) in
       ap (λ a. isRefused (a .newTail)) (wrote sh (l .bytes) (l .tail) q t)
 
 pub accepts-exactly : (sh : Shape) → okShape sh ≡ true → AcceptsExactly sh

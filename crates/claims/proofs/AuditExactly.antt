@@ -173,7 +173,7 @@ module _ (sh : Shape) (shape : okShape sh ≡ true) (h : History) (scratch : Lis
   -- ---- which end it is
 
   module _ (framed : Framed sh (wholeLog sh h)) where
-    frame : badFrame sh log ≡ false
+    frame : badFrame sh.layout log ≡ false
     frame = words-frame sh shape (wholeLog sh h) framed
 
     good : lowestBad sh log ≡ none

@@ -37,7 +37,7 @@ isGoing (waits q cs) = false
 isGoing (lacks q cs) = false
 
 pub record Sound (sh : Shape) (log : Log) (room : ℕ) : Type 0 where
-  pub frame : badFrame sh log ≡ false
+  pub frame : badFrame sh.layout log ≡ false
   pub good : lowestBad sh log ≡ none
   pub ended : isGoing (auditPlay sh log room (log .tail)) ≡ true
   pub told : (d : ℕ) → d < log .tail → asPlayed sh log room d (log .entry d) ≡ true
@@ -59,7 +59,7 @@ audit-passed sh log scratch h =
     go none none (going cs) i j k e =
         let tests = all-pass (frameAndEntries sh log) i in
         record {
-          frame = refuse-none 1 (badFrame sh log) (tests .0);
+          frame = refuse-none 1 (badFrame sh.layout log) (tests .0);
           good = refuseAt-none 2 (lowestBad sh log) (tests .1 .0);
           ended = ap isGoing k;
           told = λ d l. not-false _ (lowest-none (λ d. not (asPlayed sh log room d (log .entry d))) (log .tail) j d l);
@@ -119,18 +119,18 @@ going-back sh log set room p cs d (suc n) h = going-back sh log set room p cs d 
     go (waits q u) i = i
     go (lacks q u) i = i
 
-pub tail-small : (sh : Shape) (log : Log) → badFrame sh log ≡ false → log .tail ≤ mostSlots
+pub tail-small : (sh : Shape) (log : Log) → badFrame sh.layout log ≡ false → log .tail ≤ mostSlots
 unfolding badFrame
 tail-small sh log e =
-    let a : ltb (slots sh log) (log .tail) ≡ false = search ors in
-    omega (arith, frame-few sh log e, ltb-false (slots sh log) (log .tail) a)
+    let a : ltb (slots sh.layout log) (log .tail) ≡ false = search ors in
+    omega (arith, frame-few sh.layout log e, ltb-false (slots sh.layout log) (log .tail) a)
 
 -- a play that goes on to the tail went on to every offset below
 pub goes-back : (sh : Shape) (log : Log) (room d : ℕ) → isGoing (auditPlay sh log room (log .tail)) ≡ true → d ≤ log .tail → isGoing (auditPlay sh log room d) ≡ true
 goes-back sh log room d e l = let s : d + (log .tail - d) ≡ log .tail = omega arith in going-back sh log (ids sh) room 0 [] d (log .tail - d) (rw s e)
 
 -- on a good log, whatever its decisions and checkpoints say
-module _ (sh : Shape) (shape : okShape sh ≡ true) (log : Log) (room : ℕ) (frame : badFrame sh log ≡ false) (good : lowestBad sh log ≡ none) where
+module _ (sh : Shape) (shape : okShape sh ≡ true) (log : Log) (room : ℕ) (frame : badFrame sh.layout log ≡ false) (good : lowestBad sh log ≡ none) where
   kept : Kept sh log (log .tail)
   kept = good-kept sh log good
 

@@ -25,28 +25,28 @@ use Rattle.laws.proofs.Refusals.{not-none}
 
 -- ---- the frame
 
-pub frame-words : (sh : Shape) (l : Lent) → badFrame sh (inLog sh l) ≡ false → Framed sh l
+pub frame-words : (sh : Shape) (l : Lent) → badFrame sh.layout (inLog sh l) ≡ false → Framed sh l
 unfolding badFrame logIn
 frame-words sh l e =
-    let w : not (eqb (length (l .bytes) % sh .slotSize) 0) ≡ false = search ors in
-    let z : length (l .bytes) % sh .slotSize ≡ 0 = eqb-true _ 0 (not-false _ w) in
-    let a : ltb mostSlots (length (l .bytes) / sh .slotSize) ≡ false = search ors in
-    let b : ltb (length (l .bytes) / sh .slotSize) (l .tail) ≡ false = search ors in
+    let w : not (eqb (length (l .bytes) % sh .layout .slotSize) 0) ≡ false = search ors in
+    let z : length (l .bytes) % sh .layout .slotSize ≡ 0 = eqb-true _ 0 (not-false _ w) in
+    let a : ltb mostSlots (length (l .bytes) / sh .layout .slotSize) ≡ false = search ors in
+    let b : ltb (length (l .bytes) / sh .layout .slotSize) (l .tail) ≡ false = search ors in
     record {
-      slots = length (l .bytes) / sh .slotSize;
-      whole = omega (arith, div-add-mod (length (l .bytes)) (sh .slotSize));
-      few = ltb-false mostSlots (length (l .bytes) / sh .slotSize) a;
-      used = ltb-false (length (l .bytes) / sh .slotSize) (l .tail) b;
+      slots = length (l .bytes) / sh .layout .slotSize;
+      whole = omega (arith, div-add-mod (length (l .bytes)) (sh .layout .slotSize));
+      few = ltb-false mostSlots (length (l .bytes) / sh .layout .slotSize) a;
+      used = ltb-false (length (l .bytes) / sh .layout .slotSize) (l .tail) b;
     }
 
-pub words-frame : (sh : Shape) → okShape sh ≡ true → (l : Lent) → Framed sh l → badFrame sh (inLog sh l) ≡ false
+pub words-frame : (sh : Shape) → okShape sh ≡ true → (l : Lent) → Framed sh l → badFrame sh.layout (inLog sh l) ≡ false
 unfolding badFrame logIn
 words-frame sh shape l f =
-    let some : 1 ≤ sh .slotSize = omega (arith, layout sh shape .room) in
-    let n : length (l .bytes) / sh .slotSize ≡ f .slots = ap (λ (m : ℕ). m / sh .slotSize) (f .whole) ∙ mul-div-right (f .slots) some in
-    let z : length (l .bytes) % sh .slotSize ≡ 0 = ap (λ (m : ℕ). m % sh .slotSize) (f .whole) ∙ mul-mod-right (sh .slotSize) (f .slots) in
-    neither (neither (ap not (eq-eqb (length (l .bytes) % sh .slotSize) 0 z)) (le-ltb mostSlots (length (l .bytes) / sh .slotSize) (omega (arith, f .few))))
-    (le-ltb (length (l .bytes) / sh .slotSize) (l .tail) (omega (arith, f .used)))
+    let some : 1 ≤ sh .layout .slotSize = omega (arith, layout sh shape .room) in
+    let n : length (l .bytes) / sh .layout .slotSize ≡ f .slots = ap (λ (m : ℕ). m / sh .layout .slotSize) (f .whole) ∙ mul-div-right (f .slots) some in
+    let z : length (l .bytes) % sh .layout .slotSize ≡ 0 = ap (λ (m : ℕ). m % sh .layout .slotSize) (f .whole) ∙ mul-mod-right (sh .layout .slotSize) (f .slots) in
+    neither (neither (ap not (eq-eqb (length (l .bytes) % sh .layout .slotSize) 0 z)) (le-ltb mostSlots (length (l .bytes) / sh .layout .slotSize) (omega (arith, f .few))))
+    (le-ltb (length (l .bytes) / sh .layout .slotSize) (l .tail) (omega (arith, f .used)))
 
 -- ---- the writes of a number
 

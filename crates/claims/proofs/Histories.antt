@@ -11,7 +11,7 @@ use borrow.Author.Tests.{eqb-true, eqb-false, ltb-true, ltb-false, le-ltb}
 use lib.Dec.{eqb, ltb}
 use lib.ListN.{length, take}
 use Rattle.lists.specs.Tests.{ands, or-l, or-r, neither, clash}
-use Rattle.model.specs.Objects.{Shape}
+use Rattle.model.specs.Objects.{Layout, Shape}
 use Rattle.model.specs.Entries.{Decision, decision, Log}
 use Rattle.model.specs.Slot.{logIn, mostSlots, okShape}
 use Rattle.model.specs.Rules.{okEntry, lowestBad}
@@ -145,18 +145,18 @@ module _ (sh : Shape) (shape : okShape sh ≡ true) where
 
 -- ---- the log as it stood
 
-frame-below : (sh : Shape) (old new : Log) → badFrame sh new ≡ false → new .size ≡ old .size → old .tail ≤ new .tail → badFrame sh old ≡ false
+frame-below : (ly : Layout) (old new : Log) → badFrame ly new ≡ false → new .size ≡ old .size → old .tail ≤ new .tail → badFrame ly old ≡ false
 unfolding badFrame
-frame-below sh old new e s l =
-    let whole : (not (eqb (old .size % sh .slotSize) 0) || ltb mostSlots (slots sh old)) ≡ false = rw (← s) (or-l _ (ltb (slots sh new) (new .tail)) e) in
-    let high : ltb (slots sh new) (new .tail) ≡ false = or-r (not (eqb (new .size % sh .slotSize) 0) || ltb mostSlots (slots sh new)) (ltb (slots sh new) (new .tail)) e in
-    neither whole (le-ltb (slots sh old) (old .tail) (omega (arith, ltb-false (slots sh new) (new .tail) high, ap (λ (n : ℕ). n / sh .slotSize) s)))
+frame-below ly old new e s l =
+    let whole : (not (eqb (old .size % ly .slotSize) 0) || ltb mostSlots (slots ly old)) ≡ false = rw (← s) (or-l _ (ltb (slots ly new) (new .tail)) e) in
+    let high : ltb (slots ly new) (new .tail) ≡ false = or-r (not (eqb (new .size % ly .slotSize) 0) || ltb mostSlots (slots ly new)) (ltb (slots ly new) (new .tail)) e in
+    neither whole (le-ltb (slots ly old) (old .tail) (omega (arith, ltb-false (slots ly new) (new .tail) high, ap (λ (n : ℕ). n / ly .slotSize) s)))
 
 -- a log as it stood when the whole log had a lower tail
 pub record Stood (sh : Shape) (whole log : Log) : Type 0 where
   pub tails : log .tail ≤ whole .tail
   pub agrees : Agree log whole (log .tail)
-  pub frame : badFrame sh log ≡ false
+  pub frame : badFrame sh.layout log ≡ false
   pub good : lowestBad sh log ≡ none
   pub truths : TrueBelow log (log .tail)
 
@@ -180,7 +180,7 @@ stood-so sh shape h room n sound =
     record {
       tails = up .tails;
       agrees = agrees;
-      frame = frame-below sh (inLog sh (stood sh h n)) (inLog sh (wholeLog sh h)) (sound .frame) (up .size) (up .tails);
+      frame = frame-below sh.layout (inLog sh (stood sh h n)) (inLog sh (wholeLog sh h)) (sound .frame) (up .size) (up .tails);
       good = grown-good sh shape start (take n (h .requests)) (empty-good sh shape (h .bytes));
       truths = true-below sh (inLog sh (wholeLog sh h)) (inLog sh (stood sh h n)) (sound .good) (up .tails) agrees (decisions-true sh shape (inLog sh (wholeLog sh h)) room sound);
     }

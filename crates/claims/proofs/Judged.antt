@@ -40,7 +40,7 @@ says-stale v cells c = go (eqb v 1) (current cells (c .reads)) refl refl
     go false true p q = (λ e. clash false e refl, λ h. absurd (eqb-false v 1 p (h .1 (fresh q))))
     go false false p q = (λ e. (λ i. absurd (eqb-false v 1 p i), λ n. absurd (n (old-stale cells c q))), λ h. refl)
 
-module _ (sh : Shape) (shape : okShape sh ≡ true) (log : Log) (room : ℕ) (frame : badFrame sh log ≡ false) (good : lowestBad sh log ≡ none)
+module _ (sh : Shape) (shape : okShape sh ≡ true) (log : Log) (room : ℕ) (frame : badFrame sh.layout log ≡ false) (good : lowestBad sh log ≡ none)
     (ended : isGoing (auditPlay sh log room (log .tail)) ≡ true) where
   pub decision-judged : (d : ℕ) (r : Decision) (n : ℕ) (c : Claim) → d < log .tail → r .offset < d → log .entry (r .offset) ≡ commit n c
       → (asPlayed sh log room d (decision r) ≡ true) ↔ ((r .outcome ≡ 1) ↔ (Stale (run log (r .offset) .cells) c → ⊥))

@@ -21,7 +21,7 @@ module _ (sh : Shape) (shape : okShape sh ≡ true) where
   pub after-good : (l : Lent) (q : Request) → lowestBad sh (inLog sh l) ≡ none → lowestBad sh (inLog sh (after sh l q)) ≡ none
   after-good l q good = by (appendTo sh l q .newTail) refl
     where
-      by : (a : Answer ℕ) → appendTo sh l q .newTail ≡ a → lowestBad sh (logOf sh (appendTo sh l q .bytes) (tailAfter (l .tail) a)) ≡ none
+      by : (a : Answer ℕ) → appendTo sh l q .newTail ≡ a → lowestBad sh (logOf sh.layout (appendTo sh l q .bytes) (tailAfter (l .tail) a)) ≡ none
       by (done t) e = let a = accepted sh (l .bytes) (l .tail) q t shape e in rw (a .next) (a .good)
       by (refused r) e = rw (refused-same sh (l .bytes) (l .tail) q r e) good
 
@@ -32,7 +32,7 @@ module _ (sh : Shape) (shape : okShape sh ≡ true) where
 
   pub empty-good : (bytes : List ℕ) → lowestBad sh (inLog sh (empty bytes)) ≡ none
   unfolding logIn
-  empty-good bytes = below-good sh (logOf sh bytes 0) (λ p h. absurd (omega arith))
+  empty-good bytes = below-good sh (logOf sh.layout bytes 0) (λ p h. absurd (omega arith))
 
 pub keeps-good : (sh : Shape) → okShape sh ≡ true → KeepsGood sh
 keeps-good sh shape h = grown-good sh shape (empty (h .bytes)) (h .requests) (empty-good sh shape (h .bytes))

@@ -8,7 +8,7 @@ use native.Mathlib.Nat.{mul-le-mul-left}
 use native.Mathlib.Omega.{arith}
 use lib.ListN.{take, drop}
 use lib.Seq.{take-take, take-nil}
-use Rattle.model.specs.Objects.{Shape}
+use Rattle.model.specs.Objects.{Layout, Shape}
 use Rattle.model.specs.Slot.{slot, okShape}
 use Rattle.model.specs.Answers.{Answer, done, refused, badFrame}
 use Rattle.model.specs.Append.{Request}
@@ -25,22 +25,22 @@ part-taken zero (suc d) k (x ∷ b) h = absurd (omega arith)
 part-taken (suc n) (suc d) k (x ∷ b) h = part-taken n d k b (omega arith)
 
 -- a slot below the lower of two tails, in bytes that are the same up to it
-pub slot-later : (sh : Shape) (a b : List ℕ) (m n o : ℕ) → o < m → m ≤ n → take (sh .slotSize * m) b ≡ take (sh .slotSize * m) a → slot sh (take (sh .slotSize * n) b) o ≡ slot sh (take (sh .slotSize * m) a) o
+pub slot-later : (ly : Layout) (a b : List ℕ) (m n o : ℕ) → o < m → m ≤ n → take (ly .slotSize * m) b ≡ take (ly .slotSize * m) a → slot ly (take (ly .slotSize * n) b) o ≡ slot ly (take (ly .slotSize * m) a) o
 unfolding slot
-slot-later sh a b m n o h l e =
-    part-taken (sh .slotSize * n) (sh .slotSize * o) (sh .slotSize) b (slot-ends (sh .slotSize) o n (omega arith))
-    ∙ sym (part-taken (sh .slotSize * m) (sh .slotSize * o) (sh .slotSize) b (slot-ends (sh .slotSize) o m h))
-    ∙ ap (λ (t : List ℕ). take (sh .slotSize) (drop (sh .slotSize * o) t)) e
+slot-later ly a b m n o h l e =
+    part-taken (ly .slotSize * n) (ly .slotSize * o) (ly .slotSize) b (slot-ends (ly .slotSize) o n (omega arith))
+    ∙ sym (part-taken (ly .slotSize * m) (ly .slotSize * o) (ly .slotSize) b (slot-ends (ly .slotSize) o m h))
+    ∙ ap (λ (t : List ℕ). take (ly .slotSize) (drop (ly .slotSize * o) t)) e
 
 -- ---- the log
 
 pub record Later (sh : Shape) (l m : Lent) : Type 0 where
   pub tails : l .tail ≤ m .tail
-  pub same : take (sh .slotSize * l .tail) (m .bytes) ≡ take (sh .slotSize * l .tail) (l .bytes)
-  pub frame : badFrame sh (inLog sh m) ≡ false
+  pub same : take (sh .layout .slotSize * l .tail) (m .bytes) ≡ take (sh .layout .slotSize * l .tail) (l .bytes)
+  pub frame : badFrame sh.layout (inLog sh m) ≡ false
 
 module _ (sh : Shape) (shape : okShape sh ≡ true) where
-  after-later : (l : Lent) (q : Request) → badFrame sh (inLog sh l) ≡ false → Later sh l (after sh l q)
+  after-later : (l : Lent) (q : Request) → badFrame sh.layout (inLog sh l) ≡ false → Later sh l (after sh l q)
   after-later l q framed = by (appendTo sh l q .newTail) refl
     where
       by : (x : Answer ℕ) → appendTo sh l q .newTail ≡ x → Later sh l (record { bytes = appendTo sh l q .bytes; tail = tailAfter (l .tail) x })
@@ -49,9 +49,9 @@ module _ (sh : Shape) (shape : okShape sh ≡ true) where
           record { tails = omega (arith, a .next); same = a .front; frame = rw (a .next) (a .frame) }
       by (refused r) e =
           let s = refused-same sh (l .bytes) (l .tail) q r e in
-          record { tails = omega arith; same = ap (take (sh .slotSize * l .tail)) s; frame = rw s framed }
+          record { tails = omega arith; same = ap (take (sh .layout .slotSize * l .tail)) s; frame = rw s framed }
 
-  pub grown-later : (l : Lent) (qs : List Request) → badFrame sh (inLog sh l) ≡ false → Later sh l (grown sh l qs)
+  pub grown-later : (l : Lent) (qs : List Request) → badFrame sh.layout (inLog sh l) ≡ false → Later sh l (grown sh l qs)
   unfolding grown
   grown-later l [] framed = record { tails = omega arith; same = refl; frame = framed }
   grown-later l (q ∷ qs) framed =
@@ -60,9 +60,9 @@ module _ (sh : Shape) (shape : okShape sh ≡ true) where
       let end : List ℕ = grown sh (after sh l q) qs .bytes in
       record {
         tails = omega (arith, a .tails, b .tails);
-        same = sym (take-take (sh .slotSize * l .tail) (sh .slotSize * after sh l q .tail) end (mul-le-mul-left (sh .slotSize) (a .tails)))
-            ∙ ap (take (sh .slotSize * l .tail)) (b .same)
-            ∙ take-take (sh .slotSize * l .tail) (sh .slotSize * after sh l q .tail) (after sh l q .bytes) (mul-le-mul-left (sh .slotSize) (a .tails))
+        same = sym (take-take (sh .layout .slotSize * l .tail) (sh .layout .slotSize * after sh l q .tail) end (mul-le-mul-left (sh .layout .slotSize) (a .tails)))
+            ∙ ap (take (sh .layout .slotSize * l .tail)) (b .same)
+            ∙ take-take (sh .layout .slotSize * l .tail) (sh .layout .slotSize * after sh l q .tail) (after sh l q .bytes) (mul-le-mul-left (sh .layout .slotSize) (a .tails))
             ∙ a .same;
         frame = b .frame;
       }

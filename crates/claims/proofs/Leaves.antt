@@ -165,7 +165,7 @@ play-leaves sh shape l r stop = go (playRefusal sh (inLog sh l) (r .replica) (r 
     go (some x) e =
         let same : playOn sh l r stop ≡ record { answer = refused x; replica = r .replica; table = r .table } =
         ap (playGiven (r .replica) stop (r .table) (playFrom sh (inLog sh l) (r .replica) (r .table) stop)) e in
-        let low : x .number < 12 = own-number (badFrame sh (inLog sh l)) (lowestBad sh (inLog sh l)) (badReplica (l .tail) (r .replica) (r .table)) (badStop (l .tail) (r .replica) stop) x e in
+        let low : x .number < 12 = own-number (badFrame sh.layout (inLog sh l)) (lowestBad sh (inLog sh l)) (badReplica (l .tail) (r .replica) (r .table)) (badStop (l .tail) (r .replica) stop) x e in
         let no : Playable sh l r stop → ⊥ = λ p. not-none x (sym e ∙ words-playable sh shape l r stop p) in
         record {
           ends = ((λ h. absurd (not-ended stop x (r .replica) (r .table) low (subst (Ended stop) same h))), (λ p. absurd (no p)));
@@ -195,7 +195,7 @@ answered sh shape l r stop n high h = go (playRefusal sh (inLog sh l) (r .replic
     go : (x : Option Refusal) → playRefusal sh (inLog sh l) (r .replica) (r .table) stop ≡ x → Playable sh l r stop
     go none e = playable-words sh shape l r stop e
     go (some x) e =
-        let low : x .number < 12 = own-number (badFrame sh (inLog sh l)) (lowestBad sh (inLog sh l)) (badReplica (l .tail) (r .replica) (r .table)) (badStop (l .tail) (r .replica) stop) x e in
+        let low : x .number < 12 = own-number (badFrame sh.layout (inLog sh l)) (lowestBad sh (inLog sh l)) (badReplica (l .tail) (r .replica) (r .table)) (badStop (l .tail) (r .replica) stop) x e in
         let same : refused x ≡ plainly n =
         sym (ap (λ (y : Option Refusal). playGiven (r .replica) stop (r .table) (playFrom sh (inLog sh l) (r .replica) (r .table) stop) y .answer) e) ∙ h in
         absurd (let k : x .number ≡ n = ap code same in omega arith)

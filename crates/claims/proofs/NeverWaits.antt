@@ -95,7 +95,7 @@ never-waits sh log scratch h = go (firstOf (frameAndEntries sh log)) (lowestFals
 
     go : (x : Option Refusal) (f : Option ℕ) (p : Played) → firstOf (frameAndEntries sh log) ≡ x → auditPlay sh log room (log .tail) ≡ p
         → auditGiven (everything sh) (log .tail) scratch f p x .answer ≡ plainly 12 → ⊥
-    go (some r) f p i k e = low (badFrame sh log) (lowestBad sh log) (ap numberIn i ∙ ap code e)
+    go (some r) f p i k e = low (badFrame sh.layout log) (lowestBad sh log) (ap numberIn i ∙ ap code e)
     go none none (going cs) i k e = let n : _≡_ {A = ℕ} 0 12 = ap code e in omega arith
     go none (some o) (going cs) i k e = let n : _≡_ {A = ℕ} 11 12 = ap code e in omega arith
     go none f (lacks q cs) i k e = let n : _≡_ {A = ℕ} 13 12 = ap code e in omega arith

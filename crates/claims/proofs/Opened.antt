@@ -53,7 +53,7 @@ rest-kept table x cs =
 
 module _ (sh : Shape) (shape : okShape sh ≡ true) (log : Log) (o : ℕ) (table : List ℕ) where
   -- an opening that passed its tests
-  loads : (x : ℕ) (cs : List Saved) → badFrame sh log ≡ false → lowestBad sh log ≡ none → o < log .tail → log .entry o ≡ checkpoint x cs
+  loads : (x : ℕ) (cs : List Saved) → badFrame sh.layout log ≡ false → lowestBad sh log ≡ none → o < log .tail → log .entry o ≡ checkpoint x cs
       → OpenedAt sh log o table (leftWith (done tt) (setOf sh x) (o + 1) table (loaded x cs))
   unfolding okEntry
   loads x cs frame good l e =

@@ -15,7 +15,7 @@ use Rattle.lists.specs.Members.{mem-map, map-mem}
 use Rattle.lists.specs.Rows.{map-values}
 use Rattle.lists.specs.Bytes.{beAt}
 use Rattle.lists.specs.Splice.{splice}
-use Rattle.model.specs.Objects.{Shape}
+use Rattle.model.specs.Objects.{Layout, Shape}
 use Rattle.model.specs.Entries.{Write, commit, Log, writesOf, writtenObjects, commitObjects, headerObjects, numberOf}
 use Rattle.model.specs.Slot.{objectsIn, markOf, itemBytes, itemCount, slotOf, slot, logIn, headerSize, headersBegin, itemSize, itemsBegin, okShape}
 use Rattle.model.specs.Rules.{lowestBad}
@@ -49,9 +49,9 @@ kind-marked log s (saves r table o) e = rw e
 
 -- ---- the header objects
 
-objects-told : (sh : Shape) (s : List ℕ) → headerObjectsIn (infoIn sh s) ≡ objectsIn sh s
+objects-told : (ly : Layout) (s : List ℕ) → headerObjectsIn (infoIn ly s) ≡ objectsIn ly s
 unfolding infoIn objectsIn
-objects-told sh s = map-values (λ (x : Header). x .object) (λ i. headerAt s (headersBegin + headerSize sh * i)) 0 (beAt 1 s 2)
+objects-told ly s = map-values (λ (x : Header). x .object) (λ i. headerAt s (headersBegin + headerSize ly * i)) 0 (beAt 1 s 2)
 
 -- ---- what was given
 
@@ -101,15 +101,15 @@ objects-given sh log (saves r table o) a = refl
 module _ (sh : Shape) (shape : okShape sh ≡ true) (l : Lent) (q : Request) (taken : Accepted sh l q) where
   -- the slot of the entry, over the log as it was
   abbrev pub itsSlot : List ℕ
-  itsSlot = slotOf sh (inLog sh l) (l .tail) (entryOf (inLog sh l) q)
+  itsSlot = slotOf sh.layout (inLog sh l) (l .tail) (entryOf (inLog sh l) q)
 
   given : Allowed sh (inLog sh l) q
   given = accepts-exactly sh shape l q .0 taken .allowed
 
-  left : appendTo sh l q ≡ record { newTail = done (l .tail + 1); bytes = splice (l .bytes) (sh .slotSize * l .tail) itsSlot }
+  left : appendTo sh l q ≡ record { newTail = done (l .tail + 1); bytes = splice (l .bytes) (sh .layout .slotSize * l .tail) itsSlot }
   left = wrote sh (l .bytes) (l .tail) q (passed sh (l .bytes) (l .tail) q taken)
 
-  pub left-bytes : after sh l q .bytes ≡ splice (l .bytes) (sh .slotSize * l .tail) itsSlot
+  pub left-bytes : after sh l q .bytes ≡ splice (l .bytes) (sh .layout .slotSize * l .tail) itsSlot
   left-bytes = ap (λ a. a .bytes) left
 
   exit : Exit sh (l .bytes) (l .tail) q (l .tail + 1) (appendTo sh l q .bytes)
@@ -122,25 +122,25 @@ module _ (sh : Shape) (shape : okShape sh ≡ true) (l : Lent) (q : Request) (ta
   unfolding logIn
   kept = good-kept sh (inLog sh l) (exit .was-good)
 
-  few-headers : length (headerObjects (inLog sh l) (l .tail) (entryOf (inLog sh l) q)) ≤ sh .headers
+  few-headers : length (headerObjects (inLog sh l) (l .tail) (entryOf (inLog sh l) q)) ≤ sh .layout .headers
   few-headers = headers-few sh (inLog sh l) shape (l .tail) (entryOf (inLog sh l) q) kept (exit .obeyed)
 
-  few-items : itemCount (entryOf (inLog sh l) q) ≤ sh .items
+  few-items : itemCount (entryOf (inLog sh l) q) ≤ sh .layout .items
   few-items = items-few sh (inLog sh l) shape (l .tail) (entryOf (inLog sh l) q) (exit .obeyed)
 
   -- ---- the slot, as the calls tell it
 
-  pub kind-is : infoIn sh itsSlot .kind ≡ kindGiven q
+  pub kind-is : infoIn sh.layout itsSlot .kind ≡ kindGiven q
   unfolding infoIn
   kind-is = kind-marked (inLog sh l) itsSlot q (slot-mark sh shape (inLog sh l) (l .tail) (entryOf (inLog sh l) q))
 
-  pub number-is : infoIn sh itsSlot .number ≡ numberOf (entryOf (inLog sh l) q)
+  pub number-is : infoIn sh.layout itsSlot .number ≡ numberOf (entryOf (inLog sh l) q)
   unfolding infoIn
   number-is = slot-number sh shape (inLog sh l) (l .tail) (entryOf (inLog sh l) q) (number-fits sh (inLog sh l) shape (l .tail) (entryOf (inLog sh l) q) kept (exit .obeyed))
 
-  pub objects-are : headerObjectsIn (infoIn sh itsSlot) ≡ headerObjects (inLog sh l) (l .tail) (entryOf (inLog sh l) q)
+  pub objects-are : headerObjectsIn (infoIn sh.layout itsSlot) ≡ headerObjects (inLog sh l) (l .tail) (entryOf (inLog sh l) q)
   objects-are =
-      objects-told sh itsSlot
+      objects-told sh.layout itsSlot
       ∙ objects-read sh shape (inLog sh l) (l .tail) (entryOf (inLog sh l) q) few-headers (headers-small sh shape (inLog sh l) (l .tail) (entryOf (inLog sh l) q) kept (exit .obeyed))
 
   -- ---- the calls, some appends later
@@ -162,28 +162,28 @@ module _ (sh : Shape) (shape : okShape sh ≡ true) (l : Lent) (q : Request) (ta
     unfolding logIn
     nothing-refuses = rw (up .frame, good, lt-leb (now .tail) (l .tail) (omega (arith, tail-after, up .tails)))
 
-    written : slot sh (inLog sh now .used) (l .tail) ≡ itsSlot
+    written : slot sh.layout (inLog sh now .used) (l .tail) ≡ itsSlot
     unfolding logIn
     written =
-        slot-later sh (after sh l q .bytes) (now .bytes) (after sh l q .tail) (now .tail) (l .tail) (omega (arith, tail-after)) (up .tails) (up .same)
-        ∙ ap (λ (t : ℕ). slot sh (take (sh .slotSize * t) (after sh l q .bytes)) (l .tail)) tail-after
+        slot-later sh.layout (after sh l q .bytes) (now .bytes) (after sh l q .tail) (now .tail) (l .tail) (omega (arith, tail-after)) (up .tails) (up .same)
+        ∙ ap (λ (t : ℕ). slot sh.layout (take (sh .layout .slotSize * t) (after sh l q .bytes)) (l .tail)) tail-after
         ∙ exit .written
 
-    pub info-left : entryCall sh (inLog sh now) (l .tail) ≡ done (infoIn sh itsSlot)
+    pub info-left : entryCall sh (inLog sh now) (l .tail) ≡ done (infoIn sh.layout itsSlot)
     unfolding entryCall
-    info-left = ap₂ answer nothing-refuses (ap (infoIn sh) written)
+    info-left = ap₂ answer nothing-refuses (ap (infoIn sh.layout) written)
 
     pub items-left : itemList sh (inLog sh now) (l .tail) ≡ itemBytes (entryOf (inLog sh l) q)
     unfolding itemList
     items-left =
-        ap₂ orEmpty nothing-refuses (ap (stretch sh) written)
-        ∙ ap (λ (n : ℕ). take (itemSize * n) (drop (itemsBegin sh) itsSlot)) (slot-count sh shape (inLog sh l) (l .tail) (entryOf (inLog sh l) q) few-items)
+        ap₂ orEmpty nothing-refuses (ap (stretch sh.layout) written)
+        ∙ ap (λ (n : ℕ). take (itemSize * n) (drop (itemsBegin sh.layout) itsSlot)) (slot-count sh shape (inLog sh l) (l .tail) (entryOf (inLog sh l) q) few-items)
         ∙ slot-items sh shape (inLog sh l) (l .tail) (entryOf (inLog sh l) q) few-headers
 
     read-back : Back sh l q now
     unfolding logIn
     read-back = record {
-      info = infoIn sh itsSlot;
+      info = infoIn sh.layout itsSlot;
       reads = info-left;
       kind = kind-is;
       number = rw number-is (number-given sh (inLog sh l) q given);

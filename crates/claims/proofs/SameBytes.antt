@@ -8,7 +8,7 @@ use native.Mathlib.Omega.{arith}
 use lib.Dec.{eqb}
 use lib.ListN.{length}
 use Rattle.lists.specs.Splice.{splice}
-use Rattle.model.specs.Objects.{Shape}
+use Rattle.model.specs.Objects.{Layout, Shape}
 use Rattle.model.specs.Entries.{Entry, Log, headerObjects, numberOf}
 use Rattle.model.specs.Slot.{markUpdate, markCommit, markDecision, markCheckpoint, markOf, itemBytes, itemCount, slotOf, okShape}
 use Rattle.model.specs.Answers.{Answer, done, refused}
@@ -25,10 +25,10 @@ use Rattle.claims.proofs.ReadBack.{itsSlot, left-bytes, kind-is, number
 same-count : (e e′ : Entry) → itemBytes e ≡ itemBytes e′ → itemCount e ≡ itemCount e′
 same-count e e′ i = omega (arith, length-items e, length-items e′, ap length i)
 
-same-slot : (sh : Shape) (log : Log) (p : ℕ) (e e′ : Entry) → markOf e ≡ markOf e′ → numberOf e ≡ numberOf e′ → headerObjects log p e ≡ headerObjects log p e′
-    → itemBytes e ≡ itemBytes e′ → slotOf sh log p e ≡ slotOf sh log p e′
+same-slot : (ly : Layout) (log : Log) (p : ℕ) (e e′ : Entry) → markOf e ≡ markOf e′ → numberOf e ≡ numberOf e′ → headerObjects log p e ≡ headerObjects log p e′
+    → itemBytes e ≡ itemBytes e′ → slotOf ly log p e ≡ slotOf ly log p e′
 unfolding slotOf
-same-slot sh log p e e′ m n h i = rw (m, n, h, same-count e e′ i, i)
+same-slot ly log p e e′ m n h i = rw (m, n, h, same-count e e′ i, i)
 
 -- ---- the kind tells the mark
 
@@ -54,7 +54,7 @@ module _ (sh : Shape) (shape : okShape sh ≡ true) (l : Lent) (q : Request) (ta
   items-told = items-left sh shape l q taken []
 
   module _ (i : Info) (e : entryCall sh (inLog sh (after sh l q)) (l .tail) ≡ done i) where
-    same-info : i ≡ infoIn sh (itsSlot sh shape l q taken)
+    same-info : i ≡ infoIn sh.layout (itsSlot sh shape l q taken)
     unfolding grown
     same-info = ap (told i) (sym e ∙ info-left sh shape l q taken [])
 
@@ -70,8 +70,8 @@ module _ (sh : Shape) (shape : okShape sh ≡ true) (l : Lent) (q : Request) (ta
 pub same-bytes : (sh : Shape) → okShape sh ≡ true → SameBytes sh
 same-bytes sh shape l q q′ i i′ taken taken′ e e′ kind number objects items =
     left-bytes sh shape l q taken
-    ∙ ap (splice (l .bytes) (sh .slotSize * l .tail))
-    (same-slot sh (inLog sh l) (l .tail) (entryOf (inLog sh l) q) (entryOf (inLog sh l) q′)
+    ∙ ap (splice (l .bytes) (sh .layout .slotSize * l .tail))
+    (same-slot sh.layout (inLog sh l) (l .tail) (entryOf (inLog sh l) q) (entryOf (inLog sh l) q′)
     (mark-told sh shape l q taken i e ∙ ap markOfKind kind ∙ sym (mark-told sh shape l q′ taken′ i′ e′))
     (number-told sh shape l q taken i e ∙ number ∙ sym (number-told sh shape l q′ taken′ i′ e′))
     (objects-told sh shape l q taken i e ∙ objects ∙ sym (objects-told sh shape l q′ taken′ i′ e′))

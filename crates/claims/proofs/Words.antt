@@ -82,29 +82,29 @@ module _ (sh : Shape) where
   writes-some (w ∷ ws) h = refl
 
   pub writes-words : (ws : List Write) → okWrites sh ws ≡ true
-      → (1 ≤ length ws) × (length ws ≤ sh .items) × ((w : Write) → List·Memᴰ w ws → Writes sh w)
+      → (1 ≤ length ws) × (length ws ≤ sh .layout .items) × ((w : Write) → List·Memᴰ w ws → Writes sh w)
   unfolding okWrites
   writes-words ws h =
       let a : all (okWrite sh) ws ≡ true = search ands in
-      (some-writes ws (search ands), leb-true (length ws) (sh .items) (search ands), λ w m. write-words w (all-in (okWrite sh) ws a w m))
+      (some-writes ws (search ands), leb-true (length ws) (sh .layout .items) (search ands), λ w m. write-words w (all-in (okWrite sh) ws a w m))
 
-  pub words-writes : (ws : List Write) → 1 ≤ length ws → length ws ≤ sh .items → ((w : Write) → List·Memᴰ w ws → Writes sh w) → okWrites sh ws ≡ true
+  pub words-writes : (ws : List Write) → 1 ≤ length ws → length ws ≤ sh .layout .items → ((w : Write) → List·Memᴰ w ws → Writes sh w) → okWrites sh ws ≡ true
   unfolding okWrites
-  words-writes ws s l h = both (both (writes-some ws s) (le-leb (length ws) (sh .items) l)) (in-all (okWrite sh) ws (λ w m. words-write w (h w m)))
+  words-writes ws s l h = both (both (writes-some ws s) (le-leb (length ws) (sh .layout .items) l)) (in-all (okWrite sh) ws (λ w m. words-write w (h w m)))
 
   -- the writes that are made are those of a list
   module _ (ws : List Write) (Made : Write → Type 0) where
-    pub narrow-words : ((w : Write) → Made w → List·Memᴰ w ws) → narrow sh ws ≡ true → AtMost (sh .headers) Made
+    pub narrow-words : ((w : Write) → Made w → List·Memᴰ w ws) → narrow sh ws ≡ true → AtMost (sh .layout .headers) Made
     unfolding narrow
     narrow-words made h = (
       ascendingSet (writtenObjects ws),
-      leb-true (length (ascendingSet (writtenObjects ws))) (sh .headers) h,
+      leb-true (length (ascendingSet (writtenObjects ws))) (sh .layout .headers) h,
       λ w m. mem-set w.object (writtenObjects ws) ∙ map-mem (λ (w : Write). w .object) w.object w ws (made w m) refl,
     )
 
-    pub words-narrow : ((w : Write) → List·Memᴰ w ws → Made w) → AtMost (sh .headers) Made → narrow sh ws ≡ true
+    pub words-narrow : ((w : Write) → List·Memᴰ w ws → Made w) → AtMost (sh .layout .headers) Made → narrow sh ws ≡ true
     unfolding narrow
-    words-narrow made (os, l, h) = le-leb (length (ascendingSet (writtenObjects ws))) (sh .headers) (few-numbers (sh .headers) (writtenObjects ws) os l (λ x m. there x m))
+    words-narrow made (os, l, h) = le-leb (length (ascendingSet (writtenObjects ws))) (sh .layout .headers) (few-numbers (sh .layout .headers) (writtenObjects ws) os l (λ x m. there x m))
       where
         there : (x : ℕ) → mem x (writtenObjects ws) ≡ true → mem x os ≡ true
         there x m = let (w, i, e) = mem-map (λ (w : Write). w .object) x ws m in ap (λ (y : ℕ). mem y os) (sym e) ∙ h w (made w i)
@@ -147,15 +147,15 @@ module _ (sh : Shape) where
     unfolding okRead
     words-read x a = both (a .0) (le-leb x.version p (a .1))
 
-    pub reads-words : (rs : List Read) → okReads sh p rs ≡ true → (length rs ≤ sh .items) × ((x : Read) → List·Memᴰ x rs → ReadAllowed x) × Ascend rs
+    pub reads-words : (rs : List Read) → okReads sh p rs ≡ true → (length rs ≤ sh .layout .items) × ((x : Read) → List·Memᴰ x rs → ReadAllowed x) × Ascend rs
     unfolding okReads
     reads-words rs h =
         let a : all (okRead sh p) rs ≡ true = search ands in
-        (leb-true (length rs) (sh .items) (search ands), λ x m. read-words x (all-in (okRead sh p) rs a x m), ascend-words rs (search ands))
+        (leb-true (length rs) (sh .layout .items) (search ands), λ x m. read-words x (all-in (okRead sh p) rs a x m), ascend-words rs (search ands))
 
-    pub words-reads : (rs : List Read) → length rs ≤ sh .items → ((x : Read) → List·Memᴰ x rs → ReadAllowed x) → Ascend rs → okReads sh p rs ≡ true
+    pub words-reads : (rs : List Read) → length rs ≤ sh .layout .items → ((x : Read) → List·Memᴰ x rs → ReadAllowed x) → Ascend rs → okReads sh p rs ≡ true
     unfolding okReads
-    words-reads rs l h a = both (both (le-leb (length rs) (sh .items) l) (in-all (okRead sh p) rs (λ x m. words-read x (h x m)))) (words-ascend rs a)
+    words-reads rs l h a = both (both (le-leb (length rs) (sh .layout .items) l) (in-all (okRead sh p) rs (λ x m. words-read x (h x m)))) (words-ascend rs a)
 
   -- ---- the cells of a checkpoint
 

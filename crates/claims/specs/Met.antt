@@ -11,7 +11,7 @@ use Rattle.lists.specs.Splice.{splice}
 use Rattle.lists.specs.Rows.{values, joined}
 use Rattle.lists.specs.First.{first, firstFrom}
 use Rattle.lists.specs.Equal.{eqList}
-use Rattle.model.specs.Objects.{depots, isObject, isCell, isMarked, hosted}
+use Rattle.model.specs.Objects.{theLayout, depots, isObject, isCell, isMarked, hosted}
 use Rattle.model.specs.Entries.{Held, writesOf, closed, decided, headerObjects, numberOf, earlier}
 use Rattle.model.specs.Slot.{writeBytes, writeAt, readBytes, readAt, savedBytes, savedAt, itemBytes, itemCount, headerOf, slotOf, decode, slot, logIn, objectsIn}
 use Rattle.model.specs.Rules.{okEntry, lowest, lowestBad, okWrite, okWrites, okRead, okReads, okSaved, narrow, goodAt, repeats}
@@ -47,7 +47,7 @@ saved = saves (record { hosting = 255; position = 3; count = 1 }) (holding (cell
 -- six slots of junk; the commit record of 9 is at 2, the checkpoint at 3, the decision at 4, the commit record of 10 at 5
 abbrev pub met : History
 met = record {
-  bytes = replicate (depots .slotSize * 6) 7;
+  bytes = replicate (theLayout .slotSize * 6) 7;
   requests = update 9 (put 5 1 6) ∷ update 10 (put 5 1 7) ∷ unasked ∷ commits 9 (read 2 7 0) ∷ saved ∷ decides 2 1 ∷ commits 10 (read 5 1 0) ∷ [];
 }
 

@@ -9,7 +9,7 @@ use lib.ListN.{length, take, drop, getD}
 use lib.Seq.{getD-take, take-at, drop-at}
 use Rattle.lists.specs.Bytes.{beAt, beAt-same}
 use Rattle.lists.specs.Rows.{joined, values-same}
-use Rattle.model.specs.Objects.{Shape, everything}
+use Rattle.model.specs.Objects.{Layout, Shape, everything}
 use Rattle.model.specs.Entries.{Log}
 use Rattle.model.specs.Slot.{slotOf, logIn, logOf}
 use Rattle.model.specs.Table.{Cell, cellAt, cellBytes, cellsOf, tableWith, capacity, cellSize}
@@ -22,31 +22,31 @@ use Rattle.laws.proofs.Tables.{length-stored}
 
 -- ---- the log
 
-pub log-same : (sh : Shape) (a b : List ℕ) (tail : ℕ) → length a ≡ length b → take (sh .slotSize * tail) a ≡ take (sh .slotSize * tail) b → logOf sh a tail ≡ logOf sh b tail
-log-same sh a b tail e f = ap₂ (λ (n : ℕ) (l : List ℕ). logIn sh n tail l) e f
+pub log-same : (ly : Layout) (a b : List ℕ) (tail : ℕ) → length a ≡ length b → take (ly .slotSize * tail) a ≡ take (ly .slotSize * tail) b → logOf ly a tail ≡ logOf ly b tail
+log-same ly a b tail e f = ap₂ (λ (n : ℕ) (l : List ℕ). logIn ly n tail l) e f
 
 -- two slices that answer alike at a tail, whatever else a call is given
 pub record Alike (sh : Shape) (a b : List ℕ) (tail : ℕ) : Type 0 where
-  pub checks : check sh (logOf sh a tail) ≡ check sh (logOf sh b tail)
-  pub owes : owed sh (logOf sh a tail) ≡ owed sh (logOf sh b tail)
-  pub tells : (o : ℕ) → entryCall sh (logOf sh a tail) o ≡ entryCall sh (logOf sh b tail) o
-  pub items : (o : ℕ) → itemList sh (logOf sh a tail) o ≡ itemList sh (logOf sh b tail) o
-  pub nexts : (x from : ℕ) → streamNext sh (logOf sh a tail) x from ≡ streamNext sh (logOf sh b tail) x from
-  pub lists : (x : ℕ) (list : List ℕ) → streamList sh (logOf sh a tail) x list ≡ streamList sh (logOf sh b tail) x list
-  pub opens : (o : ℕ) (table : List ℕ) → openAt sh (logOf sh a tail) o table ≡ openAt sh (logOf sh b tail) o table
-  pub plays : (r : Replica) (table : List ℕ) (stop : ℕ) → playCall sh (logOf sh a tail) r table stop ≡ playCall sh (logOf sh b tail) r table stop
-  pub audits : (table : List ℕ) → audit sh (logOf sh a tail) table ≡ audit sh (logOf sh b tail) table
+  pub checks : check sh (logOf sh.layout a tail) ≡ check sh (logOf sh.layout b tail)
+  pub owes : owed sh (logOf sh.layout a tail) ≡ owed sh (logOf sh.layout b tail)
+  pub tells : (o : ℕ) → entryCall sh (logOf sh.layout a tail) o ≡ entryCall sh (logOf sh.layout b tail) o
+  pub items : (o : ℕ) → itemList sh (logOf sh.layout a tail) o ≡ itemList sh (logOf sh.layout b tail) o
+  pub nexts : (x from : ℕ) → streamNext sh (logOf sh.layout a tail) x from ≡ streamNext sh (logOf sh.layout b tail) x from
+  pub lists : (x : ℕ) (list : List ℕ) → streamList sh (logOf sh.layout a tail) x list ≡ streamList sh (logOf sh.layout b tail) x list
+  pub opens : (o : ℕ) (table : List ℕ) → openAt sh (logOf sh.layout a tail) o table ≡ openAt sh (logOf sh.layout b tail) o table
+  pub plays : (r : Replica) (table : List ℕ) (stop : ℕ) → playCall sh (logOf sh.layout a tail) r table stop ≡ playCall sh (logOf sh.layout b tail) r table stop
+  pub audits : (table : List ℕ) → audit sh (logOf sh.layout a tail) table ≡ audit sh (logOf sh.layout b tail) table
   pub appends : (q : Request) → append sh a tail q .newTail ≡ append sh b tail q .newTail
 
 -- an append's answer is its refusal's
-answered : (sh : Shape) (a b s s′ : List ℕ) (tail : ℕ) (x : Option Refusal) → appendGiven sh a tail s x .newTail ≡ appendGiven sh b tail s′ x .newTail
-answered sh a b s s′ tail none = refl
-answered sh a b s s′ tail (some r) = refl
+answered : (ly : Layout) (a b s s′ : List ℕ) (tail : ℕ) (x : Option Refusal) → appendGiven ly a tail s x .newTail ≡ appendGiven ly b tail s′ x .newTail
+answered ly a b s s′ tail none = refl
+answered ly a b s s′ tail (some r) = refl
 
-pub depends-log : (sh : Shape) (a b : List ℕ) (tail : ℕ) → length a ≡ length b → take (sh .slotSize * tail) a ≡ take (sh .slotSize * tail) b → Alike sh a b tail
+pub depends-log : (sh : Shape) (a b : List ℕ) (tail : ℕ) → length a ≡ length b → take (sh .layout .slotSize * tail) a ≡ take (sh .layout .slotSize * tail) b → Alike sh a b tail
 unfolding append logIn
 depends-log sh a b tail e f =
-    let same : logOf sh a tail ≡ logOf sh b tail = log-same sh a b tail e f in
+    let same : logOf sh.layout a tail ≡ logOf sh.layout b tail = log-same sh.layout a b tail e f in
     record {
       checks = ap (check sh) same;
       owes = ap (owed sh) same;
@@ -57,8 +57,8 @@ depends-log sh a b tail e f =
       opens = λ o table. ap (λ l. openAt sh l o table) same;
       plays = λ r table stop. ap (λ l. playCall sh l r table stop) same;
       audits = λ table. ap (λ l. audit sh l table) same;
-      appends = λ q. answered sh a b _ (slotOf sh (logOf sh b tail) tail (entryOf (logOf sh b tail) q)) tail (appendRefusal sh (logOf sh a tail) q)
-          ∙ ap (λ l. appendGiven sh b tail (slotOf sh (logOf sh b tail) tail (entryOf (logOf sh b tail) q)) (appendRefusal sh l q) .newTail) same;
+      appends = λ q. answered sh.layout a b _ (slotOf sh.layout (logOf sh.layout b tail) tail (entryOf (logOf sh.layout b tail) q)) tail (appendRefusal sh (logOf sh.layout a tail) q)
+          ∙ ap (λ l. appendGiven sh.layout b tail (slotOf sh.layout (logOf sh.layout b tail) tail (entryOf (logOf sh.layout b tail) q)) (appendRefusal sh l q) .newTail) same;
     }
 
 -- ---- the table

@@ -4,7 +4,7 @@ use mathlib.Core.Bool.{Bool, cond, not, _||_}
 use mathlib.Core.List.{List, [], _∷_}
 use mathlib.Core.Option.{Option, none, some}
 use lib.Dec.{eqb, ltb}
-use Rattle.model.specs.Objects.{Shape}
+use Rattle.model.specs.Objects.{Layout, Shape}
 use Rattle.model.specs.Entries.{Log}
 use Rattle.model.specs.Slot.{mostSlots}
 use Rattle.model.specs.Rules.{lowestBad}
@@ -38,13 +38,13 @@ abbrev pub answer : {A : Type 0} → Option Refusal → A → Answer A
 answer none a = done a
 answer (some r) a = refused r
 
-abbrev pub slots : Shape → Log → ℕ
-slots sh log = log .size / sh .slotSize
+abbrev pub slots : Layout → Log → ℕ
+slots ly log = log .size / ly .slotSize
 
 -- 1: bad frame (13.3)
-unfoldable pub badFrame : Shape → Log → Bool
-badFrame sh log = not (eqb (log .size % sh .slotSize) 0) || ltb mostSlots (slots sh log) || ltb (slots sh log) (log .tail)
+unfoldable pub badFrame : Layout → Log → Bool
+badFrame ly log = not (eqb (log .size % ly .slotSize) 0) || ltb mostSlots (slots ly log) || ltb (slots ly log) (log .tail)
 
 -- 1 and 2, with which every call on a log begins
 abbrev pub frameAndEntries : Shape → Log → List (Option Refusal)
-frameAndEntries sh log = refuse 1 (badFrame sh log) ∷ refuseAt 2 (lowestBad sh log) ∷ []
+frameAndEntries sh log = refuse 1 (badFrame sh.layout log) ∷ refuseAt 2 (lowestBad sh log) ∷ []

@@ -24,7 +24,7 @@ use Rattle.model.specs.Histories.{Lent, inLog, Carried}
 -- the lent bytes are whole slots, not too many, and the tail is not above them
 pub record Framed (sh : Shape) (l : Lent) : Type 0 where
   pub slots : ℕ
-  pub whole : length (l .bytes) ≡ sh .slotSize * slots
+  pub whole : length (l .bytes) ≡ sh .layout .slotSize * slots
   pub few : slots ≤ mostSlots
   pub used : l .tail ≤ slots
 
@@ -109,12 +109,12 @@ pub record UpdateAllowed (sh : Shape) (log : Log) (n : ℕ) (items : List ℕ) :
   pub whole : length items ≡ itemSize * length (writesGiven items)
   pub number : n < 2 ^ 32
   pub some : 1 ≤ length (writesGiven items)
-  pub few : length (writesGiven items) ≤ sh .items
+  pub few : length (writesGiven items) ≤ sh .layout .items
   pub each : (w : Write) → List·Memᴰ w (writesGiven items) → Writes sh w
-  pub narrow : AtMost (sh .headers) (λ w. List·Memᴰ w (writesGiven items))
+  pub narrow : AtMost (sh .layout .headers) (λ w. List·Memᴰ w (writesGiven items))
   -- of a transaction: it has no commit record yet, and all its updates together are narrow
   pub uncommitted : (n ≡ 0 → ⊥) → Committed log n (log .tail) → ⊥
-  pub together : (n ≡ 0 → ⊥) → AtMost (sh .headers) (λ w. SetAside log n (log .tail) w ⊎ List·Memᴰ w (writesGiven items))
+  pub together : (n ≡ 0 → ⊥) → AtMost (sh .layout .headers) (λ w. SetAside log n (log .tail) w ⊎ List·Memᴰ w (writesGiven items))
 
 -- each read is of a smaller object than the next, or of the same and a smaller key
 abbrev pub Ascend : List Read → Type 0
@@ -125,7 +125,7 @@ Ascend (r ∷ s ∷ rs) = ((r .object < s .object) ⊎ ((r .object ≡ s .object
 pub record CommitAllowed (sh : Shape) (log : Log) (n : ℕ) (items : List ℕ) : Type 0 where
   pub whole : length items ≡ itemSize * length (claimGiven items .reads)
   pub number : (1 ≤ n) × (n < 2 ^ 32)
-  pub few : length (claimGiven items .reads) ≤ sh .items
+  pub few : length (claimGiven items .reads) ≤ sh .layout .items
   pub each : (x : Read) → List·Memᴰ x (claimGiven items .reads) → (isCell sh x.object x.key ≡ true) × (x .version ≤ log .tail)
   pub ascend : Ascend (claimGiven items .reads)
   pub uncommitted : Committed log n (log .tail) → ⊥
@@ -151,7 +151,7 @@ pub record CheckpointAllowed (sh : Shape) (log : Log) (r : Replica) (table : Lis
   pub hosts : mem o (hosted sh (r .hosting)) ≡ true
   pub each : (k : ℕ) (h : Held) → lookup (cellsOf table (r .count)) o k ≡ some h → Saves sh (log .tail) o k h
   -- the written keys are few
-  pub few : (ks : List ℕ) × (length ks ≤ sh .items) × ((k : ℕ) (h : Held) → lookup (cellsOf table (r .count)) o k ≡ some h → mem k ks ≡ true)
+  pub few : (ks : List ℕ) × (length ks ≤ sh .layout .items) × ((k : ℕ) (h : Held) → lookup (cellsOf table (r .count)) o k ≡ some h → mem k ks ≡ true)
 
 abbrev pub Allowed : Shape → Log → Request → Type 0
 Allowed sh log (update n items) = UpdateAllowed sh log n items
@@ -163,7 +163,7 @@ Allowed sh log (saves r table o) = CheckpointAllowed sh log r table o
 pub record Unstopped (sh : Shape) (l : Lent) (q : Request) : Type 0 where
   pub framed : Framed sh l
   pub good : AllGood sh (inLog sh l)
-  pub free : sh .slotSize * (l .tail + 1) ≤ length (l .bytes)
+  pub free : sh .layout .slotSize * (l .tail + 1) ≤ length (l .bytes)
   pub allowed : Allowed sh (inLog sh l) q
 
 -- ---- checkpoints

@@ -12,7 +12,7 @@ use Rattle.lists.specs.Splice.{splice}
 use Rattle.lists.specs.Rows.{values, joined}
 use Rattle.lists.specs.First.{first, firstFrom}
 use Rattle.lists.specs.Equal.{eqList}
-use Rattle.model.specs.Objects.{Object, ObjectKind, aMap, aRegister, theObjects, depots, ids, isObject, isCell, isMarked, hosted, setOf, everything}
+use Rattle.model.specs.Objects.{Object, ObjectKind, aMap, aRegister, theObjects, theLayout, depots, ids, isObject, isCell, isMarked, hosted, setOf, everything}
 use Rattle.model.specs.Entries.{Held, Saved, Entry, isNone, numbered, commit, decision, checkpoint, Log, writesOf, closed, decided, headerObjects, numberOf, earlier}
 use Rattle.model.specs.Slot.{valueField, headerWith, writeBytes, writeAt, readBytes, readAt, savedBytes, savedAt, itemBytes, itemCount, headerOf, slotOf, decode, slot, logIn, objectsIn}
 use Rattle.model.specs.Rules.{okEntry, lowest, lowestBad, okWrite, okWrites, okRead, okReads, okSaved, narrow, goodAt, repeats}
@@ -177,19 +177,19 @@ saved = record { key = 0; held = record { version = 0x0403; content = some 5 } }
 
 -- distances, a read's version, a decision's offset and a checkpoint's versions, of two bytes each
 pub long-written : (
-    eqList (slotOf depots long 0x0304 reads203) (
+    eqList (slotOf theLayout long 0x0304 reads203) (
     0x43 ∷ 0x4F ∷ 0x01 ∷ 0x01 ∷ 0x0A ∷ 0x0B ∷ 0x0C ∷ 0x0D
     ∷ 0x00 ∷ 0x00 ∷ 0x00 ∷ 0x02 ∷ 0x03 ∷ 0x04 ∷ 0x00 ∷ 0x00 ∷ 0x00 ∷ 0x00 ∷ 0x00 ∷ 0x00
     ∷ zeros 36
     ++ 0x00 ∷ 0x00 ∷ 0x00 ∷ 0x02 ∷ 0x00 ∷ 0x00 ∷ 0x01 ∷ 0xF3 ∷ 0x00 ∷ 0x00 ∷ 0x00 ∷ 0x00 ∷ 0x00 ∷ 0x00 ∷ 0x02 ∷ 0x03
     ∷ zeros 184)
-    && eqList (slotOf depots long 0x0405 (decision (decisionOf long 0x0304 1))) (
+    && eqList (slotOf theLayout long 0x0405 (decision (decisionOf long 0x0304 1))) (
     0x44 ∷ 0x45 ∷ 0x01 ∷ 0x01 ∷ 0x0A ∷ 0x0B ∷ 0x0C ∷ 0x0D
     ∷ 0x00 ∷ 0x00 ∷ 0x00 ∷ 0x02 ∷ 0x01 ∷ 0x01 ∷ 0x04 ∷ 0x05 ∷ 0x00 ∷ 0x00 ∷ 0x00 ∷ 0x00
     ∷ zeros 36
     ++ 0x00 ∷ 0x00 ∷ 0x00 ∷ 0x00 ∷ 0x00 ∷ 0x00 ∷ 0x03 ∷ 0x04 ∷ 0x00 ∷ 0x00 ∷ 0x00 ∷ 0x01 ∷ 0x00 ∷ 0x00 ∷ 0x00 ∷ 0x00
     ∷ zeros 184)
-    && eqList (slotOf depots long 0x0405 (checkpoint 2 saved)) (
+    && eqList (slotOf theLayout long 0x0405 (checkpoint 2 saved)) (
     0x43 ∷ 0x50 ∷ 0x01 ∷ 0x02 ∷ 0x00 ∷ 0x00 ∷ 0x00 ∷ 0x00
     ∷ 0x00 ∷ 0x00 ∷ 0x00 ∷ 0x02 ∷ 0x01 ∷ 0x01 ∷ 0x04 ∷ 0x05 ∷ 0x00 ∷ 0x00 ∷ 0x00 ∷ 0x00
     ∷ zeros 36
@@ -202,10 +202,10 @@ long-written = refl
 -- A header from the offsets of the earlier entries. Format 0: 65,535 away is a distance, more is none, for the second as for the
 -- fourth (65,600 and 65,599 would leave 64 and 63 in two bytes). Format 1: the nearest offset.
 pub pointers-written : (
-    eqList (headerWith depots 65600 2 (65598 ∷ 65 ∷ 64 ∷ 1 ∷ [])) (0 ∷ 0 ∷ 0 ∷ 2 ∷ 0x00 ∷ 0x02 ∷ 0xFF ∷ 0xFF ∷ 0 ∷ 0 ∷ 0 ∷ 0 ∷ [])
-    && eqList (headerWith depots 65600 2 (65598 ∷ 0 ∷ [])) (0 ∷ 0 ∷ 0 ∷ 2 ∷ 0x00 ∷ 0x02 ∷ 0 ∷ 0 ∷ 0 ∷ 0 ∷ 0 ∷ 0 ∷ [])
-    && eqList (headerWith depots 0x01FFFE 8 (0x010203 ∷ [])) (0 ∷ 0 ∷ 0 ∷ 8 ∷ 0xFD ∷ 0xFB ∷ 0 ∷ 0 ∷ 0 ∷ 0 ∷ 0 ∷ 0 ∷ [])
-    && eqList (headerWith depots 0x01FFFF 8 (0xFEDC ∷ 0xFEDB ∷ [])) (0x80 ∷ 0 ∷ 0 ∷ 8 ∷ 0 ∷ 0 ∷ 0 ∷ 0 ∷ 0 ∷ 0 ∷ 0xFE ∷ 0xDC ∷ [])) ≡ true
+    eqList (headerWith theLayout 65600 2 (65598 ∷ 65 ∷ 64 ∷ 1 ∷ [])) (0 ∷ 0 ∷ 0 ∷ 2 ∷ 0x00 ∷ 0x02 ∷ 0xFF ∷ 0xFF ∷ 0 ∷ 0 ∷ 0 ∷ 0 ∷ [])
+    && eqList (headerWith theLayout 65600 2 (65598 ∷ 0 ∷ [])) (0 ∷ 0 ∷ 0 ∷ 2 ∷ 0x00 ∷ 0x02 ∷ 0 ∷ 0 ∷ 0 ∷ 0 ∷ 0 ∷ 0 ∷ [])
+    && eqList (headerWith theLayout 0x01FFFE 8 (0x010203 ∷ [])) (0 ∷ 0 ∷ 0 ∷ 8 ∷ 0xFD ∷ 0xFB ∷ 0 ∷ 0 ∷ 0 ∷ 0 ∷ 0 ∷ 0 ∷ [])
+    && eqList (headerWith theLayout 0x01FFFF 8 (0xFEDC ∷ 0xFEDB ∷ [])) (0x80 ∷ 0 ∷ 0 ∷ 8 ∷ 0 ∷ 0 ∷ 0 ∷ 0 ∷ 0 ∷ 0 ∷ 0xFE ∷ 0xDC ∷ [])) ≡ true
 unfolding bytesOf eqList
 pointers-written = refl
 

@@ -15,7 +15,7 @@ use Rattle.lists.specs.First.{first, firstFrom}
 use Rattle.lists.specs.Picks.{picks}
 use Rattle.lists.specs.Equal.{eqList}
 use Rattle.lists.specs.Sets.{all, any, isEmpty, mem, meets}
-use Rattle.model.specs.Objects.{Object, ObjectKind, aMap, aRegister, Shape, isObject, isCell, isMarked, hosted}
+use Rattle.model.specs.Objects.{Object, ObjectKind, aMap, aRegister, theLayout, Shape, isObject, isCell, isMarked, hosted}
 use Rattle.model.specs.Entries.{Read, Held, Log, decisionIn, commitAt, ifSome, isNone, writesOf, closed, decided, Decision, headerObjects, numberOf, earlier, commitObjects}
 use Rattle.model.specs.Slot.{writeBytes, writeAt, readBytes, readAt, savedBytes, savedAt, itemBytes, itemCount, headerOf, slotOf, decode, slot, logIn, objectsIn}
 use Rattle.model.specs.Rules.{okEntry, lowest, lowestBad, okWrite, okWrites, okRead, okReads, okSaved, narrow, goodAt, repeats}
@@ -30,7 +30,7 @@ use Rattle.model.specs.Histories.{Lent, inLog, empty, after, grown, feed
 use Rattle.model.specs.Claims.{kindGiven, headerObjectsIn}
 use Rattle.model.specs.Worked.{code, tells, sameOffset, put, read, cell}
 
--- the eight objects with fewer keys, so that every cell can be looked at
+-- the eight objects with fewer keys, so that every cell can be looked at; their layout is the same
 abbrev pub obj : ℕ → ObjectKind → ℕ → Bool → Object
 obj i t h m = record { id = i; kind = t; highest = h; marked = m }
 
@@ -38,10 +38,7 @@ abbrev pub small : Shape
 small = record {
   objects = obj 1 aMap 2 true ∷ obj 2 aMap 9 false ∷ obj 3 aMap 2 true ∷ obj 4 aMap 2 true ∷ obj 5 aMap 2 false
       ∷ obj 6 aRegister 0 true ∷ obj 7 aRegister 0 false ∷ obj 8 aRegister 0 false ∷ [];
-  pointers = 4;
-  headers = 4;
-  items = 12;
-  slotSize = 256;
+  layout = theLayout;
 }
 
 -- a play on the log as it stood after so many appends, to a stop; its answer, and the position that it leaves
@@ -174,7 +171,7 @@ showsHold m h whole (some r) = let fed = feed small (empty (h .bytes)) (h .reque
 
 -- the history of a sample, in five slots of junk
 abbrev pub historyOf : Sample → History
-historyOf m = record { bytes = replicate (small .slotSize * 5) 7; requests = m .requests }
+historyOf m = record { bytes = replicate (small .layout .slotSize * 5) 7; requests = m .requests }
 
 unfoldable pub sampleHolds : Sample → Bool
 unfolding turnsHold

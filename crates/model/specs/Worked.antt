@@ -12,7 +12,7 @@ use Rattle.lists.specs.Rows.{values, joined}
 use Rattle.lists.specs.First.{first, firstFrom}
 use Rattle.lists.specs.Equal.{eqList}
 use Rattle.lists.specs.Sets.{all}
-use Rattle.model.specs.Objects.{depots, everything, isObject, isCell, isMarked, hosted}
+use Rattle.model.specs.Objects.{theLayout, depots, everything, isObject, isCell, isMarked, hosted}
 use Rattle.model.specs.Entries.{checkpoint, Log, writesOf, closed, decided, headerObjects, numberOf, earlier}
 use Rattle.model.specs.Slot.{headersBegin, headerSize, writeBytes, writeAt, readBytes, readAt, savedBytes, savedAt, itemBytes, itemCount, headerOf, slotOf, decode, slot, logIn, objectsIn}
 use Rattle.model.specs.Rules.{okEntry, lowest, lowestBad, okWrite, okWrites, okRead, okReads, okSaved, narrow, goodAt, repeats}
@@ -36,7 +36,7 @@ read o k v = readBytes (record { object = o; key = k; version = v })
 
 -- the log that these appends leave in n slots of any bytes (here 7)
 abbrev pub logBy : ℕ → List Request → Lent
-logBy n qs = grown depots (empty (replicate (depots .slotSize * n) 7)) qs
+logBy n qs = grown depots (empty (replicate (theLayout .slotSize * n) 7)) qs
 
 -- the bench log (16.1), with the read version of entry 3
 abbrev pub bench : ℕ → List Request
@@ -114,8 +114,8 @@ leftIs set n x e = eqb (code (x .answer)) (e .answers) && sameOffset (tells (x .
     && eqList (x .table) (joined cellBytes (e .cells) ++ lentTable (n - cellSize * length (e .cells)))
 
 unfoldable pub rowHolds : Row → Bool
-rowHolds (header qs o h) = let l = logBy 6 qs in eqList (take (headerSize depots) (drop headersBegin (slot depots (l .bytes) o))) h
-rowHolds (far p h) = eqList (headerOf depots sparse p 2) h
+rowHolds (header qs o h) = let l = logBy 6 qs in eqList (take (headerSize theLayout) (drop headersBegin (slot theLayout (l .bytes) o))) h
+rowHolds (far p h) = eqList (headerOf theLayout sparse p 2) h
 rowHolds (printed qs n os cs) =
     let l = logBy 6 qs in
     let r = report depots (inLog depots l) (lentTable n) in

@@ -13,7 +13,7 @@ use Rattle.lists.specs.Rows.{values, joined}
 use Rattle.lists.specs.First.{first, firstFrom}
 use Rattle.lists.specs.Equal.{eqList}
 use Rattle.lists.specs.Sets.{all}
-use Rattle.model.specs.Objects.{depots, isObject, isCell, isMarked, hosted}
+use Rattle.model.specs.Objects.{theLayout, depots, isObject, isCell, isMarked, hosted}
 use Rattle.model.specs.Entries.{writesOf, closed, decided, headerObjects, numberOf, earlier}
 use Rattle.model.specs.Slot.{writeBytes, writeAt, readBytes, readAt, savedBytes, savedAt, itemBytes, itemCount, headerOf, slotOf, decode, slot, logIn, logOf, objectsIn}
 use Rattle.model.specs.Rules.{okEntry, lowest, lowestBad, okWrite, okWrites, okRead, okReads, okSaved, narrow, goodAt, repeats}
@@ -49,9 +49,9 @@ audits-left = refl
 -- 1 and 2 leave the scratch table as it was. 2 tells the lowest bad entry: a slot of junk at 5; with the first slot cut off, the entry at 0,
 -- whose distance leads below the log.
 pub audits-refused : (let l = logBy 6 (bench 1) in
-    leftIs 0 48 (audit depots (logOf depots (l .bytes) 6) (lentTable 48)) (record { answers = 2; told = some 5; position = 0; cells = [] })
-    && leftIs 0 48 (audit depots (logOf depots (drop (depots .slotSize) (l .bytes)) 5) (lentTable 48)) (record { answers = 2; told = some 0; position = 0; cells = [] })
-    && leftIs 0 48 (audit depots (logOf depots (l .bytes) 7) (lentTable 48)) (stops 1 0 [])) ≡ true
+    leftIs 0 48 (audit depots (logOf theLayout (l .bytes) 6) (lentTable 48)) (record { answers = 2; told = some 5; position = 0; cells = [] })
+    && leftIs 0 48 (audit depots (logOf theLayout (drop (theLayout .slotSize) (l .bytes)) 5) (lentTable 48)) (record { answers = 2; told = some 0; position = 0; cells = [] })
+    && leftIs 0 48 (audit depots (logOf theLayout (l .bytes) 7) (lentTable 48)) (stops 1 0 [])) ≡ true
 unfolding beAt bytesOf splice values joined first firstFrom eqList writesOf closed decided headerObjects earlier writeBytes writeAt readBytes readAt savedBytes savedAt itemBytes itemCount headerOf slotOf decode slot logIn okEntry lowest lowestBad cellAt cellBytes cellsOf tableWith apply savedOf play commitsOver entryOf ownTests append openFresh openAt playCall readCell audit outcomes report grown isObject isCell isMarked hosted okWrite okWrites okRead okReads okSaved narrow goodAt lookup store step badFrame objectsIn repeats
 audits-refused = refl
 

@@ -35,7 +35,7 @@ abbrev base : List Request
 base = update 0 (put 2 7 4) ∷ update 9 (put 2 7 1 ++ put 5 1 2) ∷ commits 9 [] ∷ decides 2 1 ∷ []
 
 abbrev four : ℕ → Lent
-four slots = grown small (empty (replicate (small .slotSize * slots) 7)) base
+four slots = grown small (empty (replicate (small .layout .slotSize * slots) 7)) base
 
 -- the numbers that a list of appends gets, each on the same log; 0 for done
 abbrev codes : Lent → List Request → List ℕ
