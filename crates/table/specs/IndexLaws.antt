@@ -3,12 +3,12 @@
 use mathlib.Core.Path.{_≡_, refl, ap, ap₂, sym, subst, _∙_}
 use mathlib.Core.Bool.{Bool, true, false, cond, _&&_}
 use mathlib.Core.List.{List, [], _∷_}
-use Prim.Native.Nat.{ℕ, zero, suc, _+_, _*_, _<_}
+use Prim.Native.Nat.{ℕ, zero, suc, _+_, _*_, _≤_, _<_}
 use native.Mathlib.Nat.{zero-add}
 use native.Mathlib.Numerals.{add-one}
 use native.Mathlib.Omega.{arith}
 use lib.Dec.{eqb, eqb·suc-zero}
-use lib.ListN.{getD, drop, set, replicate, length-set, length-replicate, getD-replicate}
+use lib.ListN.{length, getD, drop, set, replicate, length-set, length-replicate, getD-replicate}
 use lib.Seq.{drop-cons, getD-set-same, getD-set-other}
 use borrow.Author.Tests.{eq-eqb}
 use Rattle.lists.specs.Tests.{both, clash}
@@ -18,12 +18,13 @@ use Rattle.model.specs.Entries.{Held}
 use Rattle.model.specs.Table.{Cell, isOf, cellAt, cellsOf, store, cellSize}
 use Rattle.table.specs.Rows.{further, rowIn}
 use Rattle.table.specs.RowLaws.{is-of, same-cell, row-store-other, row-kept}
-use Rattle.table.specs.Places.{placeOf, movedBy, Index, place-below, place-apart}
+use Rattle.table.specs.Stored.{row-room}
+use Rattle.table.specs.Places.{cellCount, placeOf, movedBy, Index, Indexed, place-below, place-apart}
 
 -- an index of none
-pub index-none : (n : ℕ) → Index [] n (replicate 21503 0)
+pub index-none : (n : ℕ) → Index [] n (replicate cellCount 0)
 unfolding rowIn
-index-none n = record { size = length-replicate {A = ℕ} 21503 0; at = λ o k c. getD-replicate {A = ℕ} 21503 (placeOf o k) 0 0 (place-below o k c) }
+index-none n = record { size = length-replicate {A = ℕ} cellCount 0; at = λ o k c. getD-replicate {A = ℕ} cellCount (placeOf o k) 0 0 (place-below o k c) }
 
 moved-further : (n r : ℕ) → movedBy n (further r) ≡ movedBy (n + 1) r
 moved-further n zero = refl
@@ -95,13 +96,31 @@ drop-row t count i l =
     drop-cons (values g 0 count) i (g 0) (omega (arith, length-values g 0 count))
     ∙ ap₂ (λ (c : Cell) (m : ℕ). c ∷ drop m (values g 0 count)) (getD-values g 0 count i (g 0) l ∙ ap g (zero-add i)) (sym (add-one i))
 
-module _ (t : List ℕ) (count i : ℕ) (l : i < count) {index : List ℕ} (c : Cell) (e : c ≡ cellAt t (cellSize * i)) (x : Index (drop (i + 1) (cellsOf t count)) (i + 1) index) where
-  back : {xs : List ℕ} → Index (c ∷ drop (i + 1) (cellsOf t count)) i xs → Index (drop i (cellsOf t count)) i xs
-  back {xs} y = subst (λ (cs : List Cell). Index cs i xs) (ap (λ (d : Cell). d ∷ drop (i + 1) (cellsOf t count)) e ∙ sym (drop-row t count i l)) y
+-- the row at place i in front of those after it: the rows from i on
+pub index-from : (t : List ℕ) (count i : ℕ) → i < count → {index : List ℕ}
+    → Index (cellAt t (cellSize * i) ∷ drop (i + 1) (cellsOf t count)) i index → Index (drop i (cellsOf t count)) i index
+index-from t count i l {index} x = subst (λ (cs : List Cell). Index cs i index) (sym (drop-row t count i l)) x
 
-  -- one row more, of no cell or of a cell
-  pub index-past : isCell depots c.object c.key ≡ false → Index (drop i (cellsOf t count)) i index
-  index-past out = back (index-skip x out)
+-- one row more in front, of no cell or of a cell, as the code read it
+pub index-past : {c d : Cell} {cs : List Cell} {i : ℕ} {index : List ℕ} → c ≡ d → isCell depots c.object c.key ≡ false
+    → Index cs (i + 1) index → Index (d ∷ cs) i index
+index-past {c} {d} {cs} {i} {index} e out x = subst (λ (b : Cell). Index (b ∷ cs) i index) e (index-skip x out)
 
-  pub index-with : isCell depots c.object c.key ≡ true → (p : ℕ) → p ≡ placeOf c.object c.key → Index (drop i (cellsOf t count)) i (set index p (i + 1))
-  index-with inside p f = back (subst (λ (m : ℕ). Index (c ∷ drop (i + 1) (cellsOf t count)) i (set index m (i + 1))) (sym f) (index-row x inside))
+pub index-with : {c d : Cell} {cs : List Cell} {i p : ℕ} {index : List ℕ} → c ≡ d → isCell depots c.object c.key ≡ true → p ≡ placeOf c.object c.key
+    → Index cs (i + 1) index → Index (d ∷ cs) i (set index p (i + 1))
+index-with {c} {d} {cs} {i} {p} {index} e inside f x =
+    subst (λ (b : Cell). Index (b ∷ cs) i (set index p (i + 1))) e
+    (subst (λ (m : ℕ). Index (c ∷ cs) i (set index m (i + 1))) (sym f) (index-row x inside))
+
+-- ---- the row of a cell
+
+pub row-is : {cs : List Cell} {index : List ℕ} → Index cs 0 index → (o k row : ℕ) → isCell depots o k ≡ true → row ≡ getD index (placeOf o k) 0 → row ≡ rowIn cs o k
+row-is {cs} x o k row i e = e ∙ x .at o k i ∙ moved-none (rowIn cs o k)
+
+-- the rows of a table, and the row that its index has of a cell
+module _ {t : List ℕ} {count : ℕ} {index : List ℕ} (x : Indexed t count index) (o k row : ℕ) (cell : isCell depots o k ≡ true) (e : row ≡ getD index (placeOf o k) 0) where
+  pub row-found : row ≡ rowIn (cellsOf t count) o k
+  row-found = row-is (x .places) o k row cell e
+
+  pub row-inside : cellSize * row ≤ length t
+  row-inside = row-room t count row o k row-found (x .rows)

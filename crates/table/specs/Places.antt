@@ -1,5 +1,5 @@
--- A place for each cell of the eight objects, and an index of rows by place. Two cells have different places, below 21503: the
--- places of the eight objects are compared by computation.
+-- A place for each cell of the eight objects, and an index of rows by place. Two cells have different places, below the
+-- number of cells: the places of the eight objects are compared by computation.
 use mathlib.Core.Path.{_≡_, refl, ap, sym, _∙_}
 use mathlib.Core.Bool.{Bool, true, false, cond, _&&_, _||_}
 use mathlib.Core.List.{List, [], _∷_}
@@ -11,9 +11,13 @@ use borrow.Author.Tests.{eqb-true, leb-true, le-leb}
 use Rattle.lists.specs.Tests.{and-l, and-r, both, clash, or-case}
 use Rattle.lists.specs.First.{first, firstFrom, every-below}
 use Rattle.model.specs.Objects.{depots, isCell}
-use Rattle.model.specs.Table.{Cell}
+use Rattle.model.specs.Table.{Cell, cellsOf, cellSize}
 use Rattle.codec.specs.Table.{at, cell-in, cell-out}
 use Rattle.table.specs.Rows.{rowIn}
+
+-- how many cells the eight objects have
+abbrev pub cellCount : ℕ
+cellCount = 21503
 
 -- the place of each object's first cell
 abbrev pub firsts : List ℕ
@@ -28,8 +32,30 @@ movedBy n i = cond (eqb i 0) 0 (n + i)
 
 -- the index has the row of each cell in the rows cs, which start at place n
 pub record Index (cs : List Cell) (n : ℕ) (index : List ℕ) : Type 0 where
-  pub size : length index ≡ 21503
+  pub size : length index ≡ cellCount
   pub at : (o k : ℕ) → isCell depots o k ≡ true → getD index (placeOf o k) 0 ≡ movedBy n (rowIn cs o k)
+
+-- ---- what the calls on an index ask
+
+-- an index of all cells, and a cell
+pub record Placed (index : List ℕ) (o k : ℕ) : Type 0 where
+  pub size : length index ≡ cellCount
+  pub cell : isCell depots o k ≡ true
+
+-- an index of all cells, and a row of the table to enter into it
+pub record Entering (table : List ℕ) (i : ℕ) (index : List ℕ) : Type 0 where
+  pub inside : cellSize * i + cellSize ≤ length table
+  pub size : length index ≡ cellCount
+
+-- the counted rows lie in the table, and the index has none yet
+pub record Unindexed (table : List ℕ) (count : ℕ) (index : List ℕ) : Type 0 where
+  pub rows : cellSize * count ≤ length table
+  pub none : Index [] count index
+
+-- the counted rows lie in the table, and the index has the row of each cell in them
+pub record Indexed (table : List ℕ) (count : ℕ) (index : List ℕ) : Type 0 where
+  pub rows : cellSize * count ≤ length table
+  pub places : Index (cellsOf table count) 0 index
 
 -- ---- places are apart
 
@@ -49,17 +75,17 @@ abbrev past : ℕ → ℕ
 past p = getD firsts p 0 + at p .highest + 1
 
 belowRule : ℕ → Bool
-belowRule p = leb (past p) 21503
+belowRule p = leb (past p) cellCount
 
 below-right : (p : ℕ) → p < 8 → belowRule p ≡ true
 unfolding belowRule first firstFrom
 below-right = every-below belowRule 8 refl
 
-pub place-below : (o k : ℕ) → isCell depots o k ≡ true → placeOf o k < 21503
+pub place-below : (o k : ℕ) → isCell depots o k ≡ true → placeOf o k < cellCount
 unfolding belowRule
 place-below o k e =
     let b = cell-bounds o k e in
-    let h : past (o - 1) ≤ 21503 = leb-true (past (o - 1)) 21503 (below-right (o - 1) (omega (arith, b .0, b .1))) in
+    let h : past (o - 1) ≤ cellCount = leb-true (past (o - 1)) cellCount (below-right (o - 1) (omega (arith, b .0, b .1))) in
     omega (arith, b .2)
 
 -- of two objects one has all its places before the other's first; the two are k / 8 and k % 8

@@ -22,12 +22,16 @@ use Rattle.model.specs.Table.{Cell, cellAt, cellBytes, cellsOf, tableWith, isOf
 use Rattle.laws.proofs.Items.{fitsCell, length-cell}
 use Rattle.laws.proofs.Tables.{length-cells, length-stored, cells-back, table-back, cells-fit, all-store}
 use Rattle.laws.proofs.Stored.{bytes-all}
-use Rattle.table.specs.Rows.{rowIn}
-use Rattle.table.specs.RowLaws.{row-some, store-new, store-old, row-store-new, row-store-old, length-by-row}
+use Rattle.table.specs.Rows.{rowIn, RowFor}
+use Rattle.table.specs.RowLaws.{row-some, row-le, store-new, store-old, row-store-new, row-store-old, length-by-row}
+
+-- the row of a cell lies in the table, as the counted rows do
+pub row-room : (t : List ℕ) (count row o k : ℕ) → row ≡ rowIn (cellsOf t count) o k → cellSize * count ≤ length t → cellSize * row ≤ length t
+row-room t count row o k e l = omega (arith, row-le (cellsOf t count) o k, length-cells t count, e)
 
 -- what a counted row holds
 pub row-held : (t : List ℕ) (count row o k : ℕ) → row ≡ rowIn (cellsOf t count) o k → 1 ≤ row
-    → (row ≤ count) × (lookup (cellsOf t count) o k ≡ some (heldBy (cellAt t (cellSize * (row - 1)))))
+    → lookup (cellsOf t count) o k ≡ some (heldBy (cellAt t (cellSize * (row - 1))))
 unfolding cellsOf
 row-held t count row o k e l =
     let g : ℕ → Cell = λ i. cellAt t (cellSize * i) in
@@ -36,7 +40,7 @@ row-held t count row o k e l =
     let h = row-some (values g 0 count) o k i (g 0) r in
     let n : length (values g 0 count) ≡ count = length-values g 0 count in
     let u : i < count = omega (arith, h .0, n) in
-    (omega (arith, u), h .1 ∙ ap (λ (c : Cell). some (heldBy c)) (getD-values g 0 count i (g 0) u ∙ ap g (zero-add i)))
+    h .1 ∙ ap (λ (c : Cell). some (heldBy c)) (getD-values g 0 count i (g 0) u ∙ ap g (zero-add i))
 
 -- a stretch in the middle replaced by one as long
 splice-mid : (a b b′ z : List ℕ) (i : ℕ) → length a ≡ i → length b ≡ length b′ → splice (a ++ b ++ z) i b′ ≡ a ++ b′ ++ z
@@ -137,18 +141,19 @@ module _ (t : List ℕ) (bytes : all (λ x. ltb x 256) t ≡ true) (count : ℕ)
 
 -- ---- a call that stores a cell: the count and the bytes that it leaves
 
-pub cell-written : (t : List ℕ) (count row o k : ℕ) (h : Held) → ((j : ℕ) → getD t j 0 < 256) → cellSize * count ≤ length t
-    → rowIn (store (cellsOf t count) o k h) o k ≡ row → (t′ : List ℕ) → t′ ≡ splice t (cellSize * (row - 1)) (cellBytes (cellOf o k h))
+pub cell-written : (t : List ℕ) (count row o k : ℕ) (h : Held) → ((j : ℕ) → getD t j 0 < 256) → RowFor t count row o k h
+    → (t′ : List ℕ) → t′ ≡ splice t (cellSize * (row - 1)) (cellBytes (cellOf o k h))
     → (b : Bool) → ltb count row ≡ b
     → _≡_ {A = ℕ × List ℕ} (cond b (count + 1) count, t′) (length (store (cellsOf t count) o k h), tableWith t (store (cellsOf t count) o k h))
-cell-written t count row o k h small room e t′ f b u =
+cell-written t count row o k h small r t′ f b u =
+    let e = r .stored in
     let cs = cellsOf t count in
     let n : length cs ≡ count = length-cells t count in
     let v : ltb (length cs) (rowIn (store cs o k h) o k) ≡ b = ap₂ ltb n e ∙ u in
     let size : cond b (count + 1) count ≡ length (store cs o k h) =
     sym (length-by-row cs o k h ∙ (λ j. cond (v j) (n j + 1) (n j))) in
     let left : t′ ≡ tableWith t (store cs o k h) =
-    f ∙ ap (λ (r : ℕ). splice t (cellSize * (r - 1)) (cellBytes (cellOf o k h))) (sym e) ∙ cell-stored t (bytes-all t (λ j l. small j)) count room o k h in
+    f ∙ ap (λ (r : ℕ). splice t (cellSize * (r - 1)) (cellBytes (cellOf o k h))) (sym e) ∙ cell-stored t (bytes-all t (λ j l. small j)) count (r .rows) o k h in
     λ j. (size j, left j)
 
 -- ---- the cells then

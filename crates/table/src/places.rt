@@ -5,6 +5,9 @@ ghost use Rattle.model.specs.Objects.{depots, isCell};
 ghost use Rattle.table.specs.Places.{placeOf};
 use codec::names::ObjectId;
 
+// How many cells the eight objects have.
+pub const CELL_COUNT: usize = 21503;
+
 // The place of the first cell of each object.
 const FIRST: [usize; 8] = [0, 10000, 10500, 11000, 11500, 21500, 21501, 21502];
 

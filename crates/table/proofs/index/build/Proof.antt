@@ -7,6 +7,7 @@ use lib.ListN.{length, drop, drop-of-length-le}
 use Rattle.model.specs.Table.{Cell, cellsOf}
 use Rattle.laws.proofs.Tables.{length-cells}
 use Rattle.table.specs.Places.{Index}
+use Rattle.table.specs.IndexLaws.{index-from}
 use Rattle.table.proofs.index.build.Statement.{statement}
 use Rattle.table.proofs.index.build.Tie as tie
 
@@ -23,28 +24,30 @@ loop-holds c =
     let cs = cellsOf (a .table .now) (a .count) in
     let short : length cs ≤ a .count = omega (arith, length-cells (a .table .now) (a .count)) in
     let none : drop (a .count) cs ≡ [] = drop-of-length-le cs short in
-    (omega arith, subst (λ (cs : List Cell). Index cs (a .count) (a .index .now)) (sym none) (c₀ .pre .1))
+    (omega arith, subst (λ (cs : List Cell). Index cs (a .count) (a .index .now)) (sym none) (c₀ .pre .none))
 
 with-row-requires : tie.Need-with-row-requires Inv-loop μ-loop
-with-row-requires c κs =
-    let l = c .before .before .loop in
-    let c₀ = c .before .before .before .before .before in
-    let a = c₀ .args in
-    let e : l .i ≡ l .i - 1 + 1 = omega arith in
-    (c₀ .pre .0, omega arith, subst (λ (m : ℕ). Index (drop m (cellsOf (a .table .now) (a .count))) m (l .index)) e (l .inv .1))
+with-row-requires c κs = record { inside = omega arith; size = c .before .before .loop .inv .1 .size }
 
 loop-again : tie.Need-loop-again Inv-loop μ-loop
-loop-again c = (omega arith, c .before .before .with-row .ensures)
+loop-again c =
+    let w = c .before .before in
+    let l = w .before .before .before .loop in
+    let a = w .before .before .before .before .before .before .args in
+    let e : l .i ≡ l .i - 1 + 1 = omega arith in
+    let later = subst (λ (m : ℕ). Index (drop m (cellsOf (a .table .now) (a .count))) m (l .index)) e (l .inv .1) in
+    (omega arith, index-from (a .table .now) (a .count) (l .i - 1) (omega arith) (w .with-row .ensures _ later))
 
 same-length : tie.Need-same-length Inv-loop μ-loop
-same-length c = c .before .loop .inv .1 .size ∙ sym (c .before .before .before .before .pre .1 .size)
+same-length c = c .before .loop .inv .1 .size ∙ sym (c .before .before .before .before .pre .none .size)
 
 returns : tie.Need-returns Inv-loop μ-loop
 returns c =
     let l = c .before .loop in
-    let a = c .before .before .before .before .args in
+    let c₀ = c .before .before .before .before in
+    let a = c₀ .args in
     let e : l .i ≡ 0 = omega arith in
-    subst (λ (m : ℕ). Index (drop m (cellsOf (a .table .now) (a .count))) m (l .index)) e (l .inv .1)
+    record { rows = c₀ .pre .rows; places = subst (λ (m : ℕ). Index (drop m (cellsOf (a .table .now) (a .count))) m (l .index)) e (l .inv .1) }
 
 pub build-spec : {M : Type 1} → statement M
 build-spec =
