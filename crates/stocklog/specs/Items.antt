@@ -17,7 +17,7 @@ use Rattle.laws.specs.Good.{GoodBelow}
 use Rattle.laws.proofs.Good.{good-all}
 use Rattle.laws.proofs.Refusals.{not-none, refuse-none, refuseAt-none}
 use Rattle.codec.specs.Eight.{slot, logOf, slotSize, badFrame, infoIn, stretch}
-use Rattle.scans.specs.Access.{Framed}
+use Rattle.scans.specs.Access.{frameOf, Framed, Inside}
 use Rattle.entries.specs.Calls.{told, told-answer, frame-is}
 use Rattle.entries.specs.Entry.{items-lie}
 use Rattle.stocklog.specs.Replies.{Reply, itemsReply, partSaid}
@@ -44,26 +44,29 @@ module _ (bytes : List ℕ) (tail o : ℕ) where
     below : o < tail
     below = leb-false tail o (refuse-none 3 (leb tail o) (passed .2))
 
-    framed : Framed bytes tail
-    framed = frame-is bytes tail (refuse-none 1 (badFrame log) (passed .0))
+    framed : Framed bytes (frameOf tail)
+    framed = frame-is bytes (frameOf tail) (refuse-none 1 (badFrame log) (passed .0))
 
     good : GoodBelow depots log tail
     unfolding logIn
     good = good-all depots log (refuseAt-none 2 (lowestBad depots log) (passed .1))
+
+    inside : Inside bytes (frameOf tail) o
+    inside = record { framed = framed; below = below; good = good }
 
   -- an entry that is told lies below the tail
   pub entry-placed : (i : Info) → entryCall depots log o ≡ done i → o < mostSlots
   unfolding entryCall
   entry-placed i e =
       let n : entryRefusal depots log o ≡ none = sym (told-answer (entryRefusal depots log o) (infoIn (slot (log .used) o))) ∙ ap told e in
-      omega (arith, below n, framed n .1)
+      omega (arith, below n, framed n .most)
 
   pub items-part : partSaid (itemsReply o (entryCall depots log o)) bytes ≡ itemList depots log o
   unfolding entryCall itemList model-infoIn logIn
   items-part = go (entryRefusal depots log o) refl
     where
       go : (x : Option Refusal) → entryRefusal depots log o ≡ x → partSaid (itemsReply o (answer x (infoIn s))) bytes ≡ orEmpty x (stretch s)
-      go none e = items-lie bytes tail o (framed e) (good e) (below e)
+      go none e = items-lie bytes (frameOf tail) o (inside e)
       go (some r) e = refl
 
   pub items-said : {r : Reply} → r ≡ itemsReply o (entryCall depots log o) → (r ≡ itemsReply o (entryCall depots log o)) × (partSaid r bytes ≡ itemList depots log o)
