@@ -8,7 +8,7 @@ use Rattle.model.specs.Run.{Run}
 use Rattle.model.specs.Histories.{Lent, wholeLog, ranTo}
 use Rattle.model.specs.Claims.{Audits}
 use Rattle.claims.proofs.Depots.{audits-depots, never-waits-depots}
-use Rattle.codec.specs.Eight.{inLog, Framed}
+use Rattle.codec.specs.Eight.{inLog, GoodFrame}
 use Rattle.answers.specs.Refusals.{checkedIn}
 use Rattle.calls.specs.Values.{lastLog, ran, scratch}
 use Rattle.calls.specs.Claims.{CallsAudit, CallsNeverWait}
@@ -19,7 +19,7 @@ pub calls-audit : CallsAudit
 calls-audit a c framed =
     let s : List ℕ = scratch c in
     let given : Audits depots (wholeLog depots (history a)) (ranTo depots (history a)) s (audit depots (inLog (wholeLog depots (history a))) s) =
-    audits-depots (history a) s (subst Framed (sym (whole-left a)) framed) in
+    audits-depots (history a) s (subst GoodFrame (sym (whole-left a)) framed) in
     let onLog : Audits depots (lastLog a) (ranTo depots (history a)) s (audit depots (inLog (lastLog a)) s) =
     subst (λ (l : Lent). Audits depots l (ranTo depots (history a)) s (audit depots (inLog l) s)) (whole-left a) given in
     let byRun : Audits depots (lastLog a) (ran a) s (audit depots (inLog (lastLog a)) s) =

@@ -7,16 +7,16 @@ use mathlib.Core.Bool.{false}
 use mathlib.Core.List.{List, [], _∷_, _++_, List·Memᴰ}
 use mathlib.Core.Option.{Option, some}
 use Rattle.model.specs.Objects.{theObjects, depots}
-use Rattle.model.specs.Entries.{Read, Held, Claim, commit as commits-at}
+use Rattle.model.specs.Entries.{Read, Held, Condition, commit as commits-at}
 use Rattle.model.specs.Table.{capacity, versionIn}
 use Rattle.model.specs.Answers.{done}
 use Rattle.model.specs.Append as model-append
-use Rattle.model.specs.Append.{commits, claimGiven}
+use Rattle.model.specs.Append.{commits, conditionGiven}
 use Rattle.model.specs.Replica as model
 use Rattle.model.specs.Run.{Run}
 use Rattle.model.specs.Histories as model-histories
 use Rattle.model.specs.Histories.{Lent, isRefused, Accepted, grown, History, stood, ranTo, Passed, Carried, Opening, ifOpened, ifFresh, carried, Play, playOn, played, plays, opened, cellsWritten}
-use Rattle.model.specs.Conditions.{Stale, Concerns, Fit, Ended}
+use Rattle.model.specs.Terms.{Stale, Concerns, Fit, Ended}
 use Rattle.model.specs.Claims.{Waiting, SameOutcome, Shows}
 use Rattle.claims.proofs.Depots.{demand2-depots, demand3-depots}
 use Rattle.codec.specs.Eight.{inLog}
@@ -92,8 +92,8 @@ module _ (a : Appends) where
 
     rereads-so : (before later : List AppendCall) (c : AppendCall) (n : ℕ) (items : List ℕ) → a .calls ≡ before ++ c ∷ later
         → seen c .request ≡ commits n items → isRefused (tailIn (seen c .answer)) ≡ false
-        → (Stale (ran a (seen c .tail) .cells) (claimGiven items) → ⊥)
-        → (x : Read) (r : ReadCall k (x .object) (x .key)) (held : Option Held) → List·Memᴰ x (claimGiven items .reads)
+        → (Stale (ran a (seen c .tail) .cells) (conditionGiven items) → ⊥)
+        → (x : Read) (r : ReadCall k (x .object) (x .key)) (held : Option Held) → List·Memᴰ x (conditionGiven items .reads)
         → readIn (r .call .answer) ≡ done held → versionIn held ≡ x .version
         → ran a (seen c .tail) .cells x.object x.key ≡ held
     rereads-so before later c n items e q taken current x r held m g v =
@@ -108,13 +108,13 @@ module _ (a : Appends) where
         ∙ ap (λ (y : model-append.Appended). isRefused (y .newTail)) (sym (append-promise c)) ∙ taken) in
         ap (λ (y : Run). y .cells x.object x.key) (sym turn)
         ∙ s .rereads (requests before) (requests later) n items asked accepted
-        (λ stale. current (subst (λ (y : Run). Stale (y .cells) (claimGiven items)) turn stale))
+        (λ stale. current (subst (λ (y : Run). Stale (y .cells) (conditionGiven items)) turn stale))
         x held m (sym (read-promise k (x .object) (x .key) r) ∙ g) v
 
   -- ---- the outcome at a commit record
 
   module _ (k : Kept) (pass : (scratch : List ℕ) × Passed depots h scratch) (o : Opening) (r : Carried) (opens : opened depots h o ≡ some r) (ps : List Play) (same : plays depots h r ps ≡ carry k) where
-    outcome-so : (p : PlayCall a k) (n : ℕ) (c : Claim) → stopOf (p .on) ≡ k .replica .position + 1
+    outcome-so : (p : PlayCall a k) (n : ℕ) (c : Condition) → stopOf (p .on) ≡ k .replica .position + 1
         → inLog (logAfter a (p .stoodAfter)) .entry (k .replica .position) ≡ commits-at n c
         → Fit (logAfter a (p .stoodAfter) .tail) (carry k) (k .replica .position + 1)
         → Concerns (inLog (logAfter a (p .stoodAfter))) (hosts k) n (k .replica .position)
@@ -132,7 +132,7 @@ module _ (a : Appends) where
         (subst (λ (l : Lent). Fit (l .tail) (carry k) (k .replica .position + 1)) (sym at) fit)
         (subst (λ (l : Lent). Concerns (inLog l) (hosts k) n (k .replica .position)) (sym at) concerns))))
 
-    crosses-so : (p : PlayCall a k) (n : ℕ) (c : Claim) → stopOf (p .on) ≡ k .replica .position + 1
+    crosses-so : (p : PlayCall a k) (n : ℕ) (c : Condition) → stopOf (p .on) ≡ k .replica .position + 1
         → inLog (logAfter a (p .stoodAfter)) .entry (k .replica .position) ≡ commits-at n c
         → Fit (logAfter a (p .stoodAfter) .tail) (carry k) (k .replica .position + 1)
         → Concerns (inLog (logAfter a (p .stoodAfter))) (hosts k) n (k .replica .position)

@@ -10,17 +10,17 @@ use lib.Dec.{ltb}
 use lib.ListN.{length, take, drop}
 use Rattle.lists.specs.Sets.{mem, ascending}
 use Rattle.model.specs.Objects.{theObjects, depots, isCell, hosted}
-use Rattle.model.specs.Entries.{Write, Read, Held, Saved, Claim, commit as commits-at, checkpoint as checkpoint-at}
+use Rattle.model.specs.Entries.{Write, Read, Held, Saved, Condition, commit as commits-at, checkpoint as checkpoint-at}
 use Rattle.model.specs.Table.{capacity, versionIn}
 use Rattle.model.specs.Answers.{done}
 use Rattle.model.specs.Reading.{itemsFrom}
-use Rattle.model.specs.Append.{commits, claimGiven}
+use Rattle.model.specs.Append.{commits, conditionGiven}
 use Rattle.model.specs.Replica.{plainly}
 use Rattle.model.specs.Run.{madeAll}
 use Rattle.model.specs.Histories.{Lent, isRefused, cellsWritten}
-use Rattle.model.specs.Conditions.{AllGood, Stale, Concerns, Blocked, Fit, Playable, Ended, Makes, Unstopped}
+use Rattle.model.specs.Terms.{AllGood, Stale, Concerns, Blocked, Fit, Playable, Ended, Makes, Unstopped}
 use Rattle.model.specs.Claims.{Bytes, Waiting, doneWith, kindGiven, NumberGiven, ObjectsGiven, ItemsGiven, headerObjectsIn, Alone, AbortsAlone, Audits, OpenedAt}
-use Rattle.codec.specs.Eight.{slotSize, inLog, Framed}
+use Rattle.codec.specs.Eight.{slotSize, inLog, GoodFrame}
 use Rattle.answers.specs.declared.Checked.the-variants as checked
 use Rattle.entries.specs.declared.calls.Info.{Info}
 use Rattle.entries.specs.declared.calls.Found.the-variants as found
@@ -116,13 +116,13 @@ CallsSameBytes = (c d : AppendCall) (t u : ℕ) → lentAt c ≡ lentAt d → se
 
 -- a play across one commit record, on any bytes, aborts exactly on a stale read (17.6)
 abbrev pub CallsAbort : Type 0
-CallsAbort = (log : Lent) (k : Kept) (p : PlayOn log k) (n : ℕ) (c : Claim) → stopOf p ≡ k .replica .position + 1
+CallsAbort = (log : Lent) (k : Kept) (p : PlayOn log k) (n : ℕ) (c : Condition) → stopOf p ≡ k .replica .position + 1
     → Alone depots log (carry k) n c → AbortsAlone depots log (carry k) n c (playLeft p)
 
 -- ---- the audit and openings
 
 abbrev pub CallsAudit : Type 0
-CallsAudit = (a : Appends) (c : AuditCall (lastLog a)) → Framed (lastLog a) → Audits depots (lastLog a) (ran a) (scratch c) (auditLeft c)
+CallsAudit = (a : Appends) (c : AuditCall (lastLog a)) → GoodFrame (lastLog a) → Audits depots (lastLog a) (ran a) (scratch c) (auditLeft c)
 
 -- on any log
 abbrev pub CallsNeverWait : Type 0
@@ -133,14 +133,14 @@ pub record CallsOpen : Type 0 where
       → (c .answer) ≡ opened.Replica (record { hosted = c .given .0; position = 0; count = 0 })
   pub atCheckpoint : (log : Lent) (c : OpenCall log) → c .call .answer .answer ≡ checked.Done
       → OpenedAt depots (inLog log) (c .call .given .1 .1 .0) (now (c .call .given .1 .1 .1 .0)) (openLeft c)
-  pub wherever : (log : Lent) (c : OpenCall log) (x : ℕ) (cs : List Saved) → Framed log → AllGood depots (inLog log)
+  pub wherever : (log : Lent) (c : OpenCall log) (x : ℕ) (cs : List Saved) → GoodFrame log → AllGood depots (inLog log)
       → c .call .given .1 .1 .0 < log .tail → inLog log .entry (c .call .given .1 .1 .0) ≡ checkpoint-at x cs
       → length cs ≤ capacity (now (c .call .given .1 .1 .1 .0)) → openLeft c .answer ≡ done tt
 
 -- ---- demand 3, and the outcomes of demand 2
 
 -- a play from a commit record of the replica's objects to the next offset, on the log as it stood: the run's outcome, or it waits
-pub record Crosses (a : Appends) (k : Kept) (p : PlayCall a k) (n : ℕ) (c : Claim) : Type 0 where
+pub record Crosses (a : Appends) (k : Kept) (p : PlayCall a k) (n : ℕ) (c : Condition) : Type 0 where
   pub ends : Ended (k .replica .position + 1) (playLeft (p .on))
   pub aborts : playLeft (p .on) .answer ≡ done tt → Stale (ran a (k .replica .position) .cells) c → (o key : ℕ) → mem o (hosts k) ≡ true → isCell depots o key ≡ true
       → (before : ReadCall k o key) (after : ReadCall (kept (p .on)) o key) → readIn (after .call .answer) ≡ readIn (before .call .answer)
@@ -163,11 +163,11 @@ pub record Behaves (a : Appends) (k : Kept) : Type 0 where
   -- a committed read of an accepted commit, made again at its turn
   pub rereads : (before later : List AppendCall) (c : AppendCall) (n : ℕ) (items : List ℕ) → a .calls ≡ before ++ c ∷ later
       → seen c .request ≡ commits n items → isRefused (tailIn (seen c .answer)) ≡ false
-      → (Stale (ran a (seen c .tail) .cells) (claimGiven items) → ⊥)
-      → (x : Read) (r : ReadCall k (x .object) (x .key)) (held : Option Held) → List·Memᴰ x (claimGiven items .reads)
+      → (Stale (ran a (seen c .tail) .cells) (conditionGiven items) → ⊥)
+      → (x : Read) (r : ReadCall k (x .object) (x .key)) (held : Option Held) → List·Memᴰ x (conditionGiven items .reads)
       → readIn (r .call .answer) ≡ done held → versionIn held ≡ x .version
       → ran a (seen c .tail) .cells x.object x.key ≡ held
-  pub outcomes : (p : PlayCall a k) (n : ℕ) (c : Claim) → stopOf (p .on) ≡ k .replica .position + 1
+  pub outcomes : (p : PlayCall a k) (n : ℕ) (c : Condition) → stopOf (p .on) ≡ k .replica .position + 1
       → inLog (logAfter a (p .stoodAfter)) .entry (k .replica .position) ≡ commits-at n c
       → Fit (logAfter a (p .stoodAfter) .tail) (carry k) (k .replica .position + 1)
       → Concerns (inLog (logAfter a (p .stoodAfter))) (hosts k) n (k .replica .position)

@@ -10,22 +10,22 @@ use borrow.Author.Tests.{eqb-true, eqb-false, ne-eqb}
 use Rattle.lists.specs.Sets.{all}
 use Rattle.lists.specs.Members.{all-false, false-all}
 use Rattle.lists.specs.Tests.{clash}
-use Rattle.model.specs.Entries.{Read, Claim}
+use Rattle.model.specs.Entries.{Read, Condition}
 use Rattle.model.specs.Table.{Holds, versionIn}
 use Rattle.model.specs.Play.{commitsOver}
-use Rattle.model.specs.Append.{claimGiven}
+use Rattle.model.specs.Append.{conditionGiven}
 use Rattle.model.specs.Run.{Run, hasVersion, current, accept, madeAll}
-use Rattle.model.specs.Conditions.{Stale}
+use Rattle.model.specs.Terms.{Stale}
 use Rattle.model.specs.Claims.{RunAborts}
 use Rattle.claims.proofs.Runs.{version-same}
 
 -- ---- stale reads, by any test that fails exactly for a read of another version
 
 module _ (cells : Holds) (test : Read → Bool) (exact : (x : Read) → (test x ≡ false) ↔ (versionIn (cells x.object x.key) ≡ x .version → ⊥)) where
-  pub stale-fails : (c : Claim) → Stale cells c → all test (c .reads) ≡ false
+  pub stale-fails : (c : Condition) → Stale cells c → all test (c .reads) ≡ false
   stale-fails c (x, m, h) = false-all test x (c .reads) m (exact x .1 h)
 
-  pub fails-stale : (c : Claim) → all test (c .reads) ≡ false → Stale cells c
+  pub fails-stale : (c : Condition) → all test (c .reads) ≡ false → Stale cells c
   fails-stale c e = let (x, m, h) = all-false test (c .reads) e in (x, m, exact x .0 h)
 
 -- ---- the run
@@ -45,14 +45,14 @@ module _ (cells : Holds) where
   current-all [] = refl
   current-all (x ∷ xs) = ap (λ (t : Bool). hasVersion (x .version) (cells x.object x.key) && t) (current-all xs)
 
-  pub stale-old : (c : Claim) → Stale cells c → current cells (c .reads) ≡ false
+  pub stale-old : (c : Condition) → Stale cells c → current cells (c .reads) ≡ false
   stale-old c s = current-all (c .reads) ∙ stale-fails cells fresh fresh-exact c s
 
-  pub old-stale : (c : Claim) → current cells (c .reads) ≡ false → Stale cells c
+  pub old-stale : (c : Condition) → current cells (c .reads) ≡ false → Stale cells c
   old-stale c e = fails-stale cells fresh fresh-exact c (sym (current-all (c .reads)) ∙ e)
 
   -- reads of which none is stale
-  pub none-stale : (c : Claim) → (Stale cells c → ⊥) → current cells (c .reads) ≡ true
+  pub none-stale : (c : Condition) → (Stale cells c → ⊥) → current cells (c .reads) ≡ true
   none-stale c h = by (current cells (c .reads)) refl
     where
       by : (b : Bool) → current cells (c .reads) ≡ b → b ≡ true
@@ -60,7 +60,7 @@ module _ (cells : Holds) where
       by false e = absurd (h (old-stale c e))
 
   -- a read of current reads has its cell's version
-  pub current-at : (c : Claim) (x : Read) → current cells (c .reads) ≡ true → List·Memᴰ x (c .reads) → versionIn (cells x.object x.key) ≡ x .version
+  pub current-at : (c : Condition) (x : Read) → current cells (c .reads) ≡ true → List·Memᴰ x (c .reads) → versionIn (cells x.object x.key) ≡ x .version
   current-at c x h m = by (eqb (versionIn (cells x.object x.key)) x.version) refl
     where
       by : (b : Bool) → eqb (versionIn (cells x.object x.key)) x.version ≡ b → versionIn (cells x.object x.key) ≡ x .version
@@ -75,8 +75,8 @@ run-aborts count n items s = record {
   makes = λ none-stale. by (current (s .cells) (c .reads)) refl none-stale;
 }
   where
-    c : Claim
-    c = claimGiven items
+    c : Condition
+    c = conditionGiven items
 
     by : (b : Bool) → current (s .cells) (c .reads) ≡ b → (Stale (s .cells) c → ⊥) → cond b (madeAll count (s .aside n) (s .cells)) (s .cells) ≡ madeAll count (s .aside n) (s .cells)
     by true q h = refl
@@ -85,10 +85,10 @@ run-aborts count n items s = record {
 -- ---- the player's test
 
 module _ (cells : Holds) where
-  pub stale-refuses : (c : Claim) → Stale cells c → commitsOver cells c ≡ false
+  pub stale-refuses : (c : Condition) → Stale cells c → commitsOver cells c ≡ false
   unfolding commitsOver
   stale-refuses c s = stale-fails cells (λ (x : Read). eqb (versionIn (cells x.object x.key)) x.version) (λ x. (eqb-false _ _, ne-eqb _ _)) c s
 
-  pub refuses-stale : (c : Claim) → commitsOver cells c ≡ false → Stale cells c
+  pub refuses-stale : (c : Condition) → commitsOver cells c ≡ false → Stale cells c
   unfolding commitsOver
   refuses-stale c e = fails-stale cells (λ (x : Read). eqb (versionIn (cells x.object x.key)) x.version) (λ x. (eqb-false _ _, ne-eqb _ _)) c e

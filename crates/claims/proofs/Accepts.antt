@@ -13,21 +13,21 @@ use lib.ListN.{length}
 use Rattle.lists.specs.Tests.{ands, ors, both, neither, or-case, clash}
 use Rattle.lists.specs.Sets.{all, isEmpty, mem}
 use Rattle.model.specs.Objects.{Shape, isObject, hosted}
-use Rattle.model.specs.Entries.{Write, Claim, Commit, commit, Log, commitAt, writesOf, closed, decided, isNone}
+use Rattle.model.specs.Entries.{Write, Condition, Commit, commit, Log, commitAt, writesOf, closed, decided, isNone}
 use Rattle.model.specs.Slot.{writeAt, readAt, logIn, okShape}
 use Rattle.model.specs.Rules.{fits, okWrites, narrow, okReads, okSaved, okOutcome, okNumber, lowestBad}
 use Rattle.model.specs.Table.{Cell, cellsOf, capacity}
 use Rattle.model.specs.Answers.{Refusal, refuse, refuseAt, firstOf, slots, badFrame, frameAndEntries}
-use Rattle.model.specs.Append.{Replica, Request, update, commits, decides, saves, writesGiven, claimGiven, savedGiven, notWhole, badReplica, ifNumbered, ownTests, appendRefusal}
+use Rattle.model.specs.Append.{Replica, Request, update, commits, decides, saves, writesGiven, conditionGiven, savedGiven, notWhole, badReplica, ifNumbered, ownTests, appendRefusal}
 use Rattle.model.specs.Histories.{Lent, inLog, isRefused, Accepted}
-use Rattle.model.specs.Conditions.{SetAside, Committed, UpdateAllowed, CommitAllowed, DecisionAllowed, CheckpointAllowed, Allowed, Unstopped}
+use Rattle.model.specs.Terms.{SetAside, Committed, UpdateAllowed, CommitAllowed, DecisionAllowed, CheckpointAllowed, Allowed, Unstopped}
 use Rattle.model.specs.Claims.{AcceptsExactly}
 use Rattle.laws.proofs.Directory.{hosted-listed}
 use Rattle.laws.proofs.Sizes.{layout, slots-fit, slots-free}
 use Rattle.laws.proofs.Refusals.{AllPass, all-pass, refuse-none, refuseAt-none, not-none, good-below, below-good}
 use Rattle.laws.proofs.Appends.{has-room, passed, wrote}
 use Rattle.laws.proofs.Decisions.{commit-entry}
-use Rattle.claims.proofs.Conditions.{frame-words, words-frame, writes-aside, aside-writes, closed-words, words-closed, undecided-words, words-undecided}
+use Rattle.claims.proofs.Terms.{frame-words, words-frame, writes-aside, aside-writes, closed-words, words-closed, undecided-words, words-undecided}
 use Rattle.claims.proofs.Words.{whole-words, words-whole, numbered-if, if-numbered, writes-words, words-writes, narrow-words, words-narrow, reads-words, words-reads, cells-words, words-cells, keys-words, words-keys}
 
 -- ---- tests that pass
@@ -110,8 +110,8 @@ module _ (sh : Shape) (log : Log) where
   commit-words : (n : ℕ) (items : List ℕ) → AllPass (ownTests sh log (commits n items)) → CommitAllowed sh log n items
   unfolding ownTests
   commit-words n items t =
-      let given : (notWhole items || not (okReads sh (log .tail) (claimGiven items .reads)) || not (okNumber n)) ≡ false = refuse-none 3 _ (t .0) in
-      let r = reads-words sh (log .tail) (claimGiven items .reads) (not-false _ (search (ors, given))) in
+      let given : (notWhole items || not (okReads sh (log .tail) (conditionGiven items .reads)) || not (okNumber n)) ≡ false = refuse-none 3 _ (t .0) in
+      let r = reads-words sh (log .tail) (conditionGiven items .reads) (not-false _ (search (ors, given))) in
       let number : okNumber n ≡ true = not-false _ (search (ors, given)) in
       let some : n ≡ 0 → ⊥ = eqb-false n 0 (not-true _ (search ands)) in
       let (w, m) = some-write (writesOf log n (log .tail)) (refuse-none 6 _ (t .1 .1 .0)) in
@@ -135,21 +135,21 @@ module _ (sh : Shape) (log : Log) where
       some : n ≡ 0 → ⊥
       some = omega (arith, a .number .0)
 
-      given : (notWhole items || not (okReads sh (log .tail) (claimGiven items .reads)) || not (okNumber n)) ≡ false
+      given : (notWhole items || not (okReads sh (log .tail) (conditionGiven items .reads)) || not (okNumber n)) ≡ false
       given =
-          neither (neither (words-whole readAt items (a .whole)) (ap not (words-reads sh (log .tail) (claimGiven items .reads) (a .few) (a .each) (a .ascend))))
+          neither (neither (words-whole readAt items (a .whole)) (ap not (words-reads sh (log .tail) (conditionGiven items .reads) (a .few) (a .each) (a .ascend))))
           (ap not (both (ap not (ne-eqb n 0 some)) (lt-ltb n (256 ^ 4) (a .number .1))))
 
       updated : isEmpty (writesOf log n (log .tail)) ≡ false
       updated = let (w, s) = a .updated in write-some (writesOf log n (log .tail)) w (aside-writes log n (log .tail) w s)
 
   -- a commit record at an offset
-  commit-there : (o : ℕ) → isNone (commitAt log o) ≡ false → (n : ℕ) × (c : Claim) × (log .entry o ≡ commit n c)
+  commit-there : (o : ℕ) → isNone (commitAt log o) ≡ false → (n : ℕ) × (c : Condition) × (log .entry o ≡ commit n c)
   commit-there o e = go (commitAt log o) refl e
     where
-      go : (x : Option Commit) → commitAt log o ≡ x → isNone x ≡ false → (n : ℕ) × (c : Claim) × (log .entry o ≡ commit n c)
+      go : (x : Option Commit) → commitAt log o ≡ x → isNone x ≡ false → (n : ℕ) × (c : Condition) × (log .entry o ≡ commit n c)
       go none i j = clash true refl j
-      go (some c) i j = (c .number, c .claim, commit-entry log o c i)
+      go (some c) i j = (c .number, c .condition, commit-entry log o c i)
 
   outcome-words : (v : ℕ) → okOutcome v ≡ true → (v ≡ 1) ⊎ (v ≡ 2)
   outcome-words v h = or-case (eqb v 1) (eqb v 2) h (λ e. inl (eqb-true v 1 e)) (λ e. inr (eqb-true v 2 e))

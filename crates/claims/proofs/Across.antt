@@ -13,7 +13,7 @@ use lib.ListN.{length}
 use Rattle.lists.specs.Tests.{and-l, and-r, clash}
 use Rattle.lists.specs.Sets.{all, mem, meets}
 use Rattle.model.specs.Objects.{Shape}
-use Rattle.model.specs.Entries.{Write, Read, Claim, contentOf, commit, Log, writesOf, headerObjects, commitObjects}
+use Rattle.model.specs.Entries.{Write, Read, Condition, contentOf, commit, Log, writesOf, headerObjects, commitObjects}
 use Rattle.model.specs.Slot.{logIn, mostSlots, okShape}
 use Rattle.model.specs.Rules.{okWrite}
 use Rattle.model.specs.Table.{Cell, Holds, cellsOf, tableWith, capacity, lookup, store, apply}
@@ -22,14 +22,14 @@ use Rattle.model.specs.Answers.{done}
 use Rattle.model.specs.Replica.{Left, plainly, leftBy}
 use Rattle.model.specs.Run.{written, madeAll}
 use Rattle.model.specs.Histories.{Lent, inLog, isRefused, Carried, playOn, hosts}
-use Rattle.model.specs.Conditions.{Stale}
+use Rattle.model.specs.Terms.{Stale}
 use Rattle.model.specs.Claims.{Alone, tableHolds, AbortsAlone, ReplicaAborts}
 use Rattle.laws.proofs.Items.{fitsCell}
 use Rattle.laws.proofs.Tables.{length-cells, cells-back, table-back, cells-fit, all-store}
 use Rattle.laws.proofs.Refusals.{below-good}
 use Rattle.laws.proofs.Appends.{good-kept}
 use Rattle.laws.proofs.Slots.{Kept, writes-ok}
-use Rattle.claims.proofs.Conditions.{words-concerns, words-frame}
+use Rattle.claims.proofs.Terms.{words-concerns, words-frame}
 use Rattle.claims.proofs.Counts.{other-object}
 use Rattle.claims.proofs.Cells.{lookup-store, apply-few, write-fitting}
 use Rattle.claims.proofs.Aborts.{stale-refuses, refuses-stale}
@@ -94,7 +94,7 @@ module _ (set : List ℕ) (v : ℕ) where
 
 -- ---- the step at the commit record
 
-module _ (sh : Shape) (log : Log) (set : List ℕ) (room p n : ℕ) (c : Claim) (here : log .entry p ≡ commit n c) where
+module _ (sh : Shape) (log : Log) (set : List ℕ) (room p n : ℕ) (c : Condition) (here : log .entry p ≡ commit n c) where
   decides-alone : meets set (commitObjects log p n) ≡ true → alone sh set c ≡ true → (cs : List Cell)
       → play sh log set room p cs (p + 1 - p) ≡ finish set room p (writesOf log n p) cs (some (commitsOver (lookup cs) c))
   unfolding play step headerObjects
@@ -108,7 +108,7 @@ reads-within sh set (x ∷ xs) h = rw (h x (List·Memᴰ·head refl)) (reads-wit
 
 -- ---- the play
 
-module _ (sh : Shape) (shape : okShape sh ≡ true) (l : Lent) (r : Carried) (n : ℕ) (c : Claim) (given : Alone sh l r n c) where
+module _ (sh : Shape) (shape : okShape sh ≡ true) (l : Lent) (r : Carried) (n : ℕ) (c : Condition) (given : Alone sh l r n c) where
   abbrev log : Log
   log = inLog sh l
 

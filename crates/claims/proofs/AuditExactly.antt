@@ -23,7 +23,7 @@ use Rattle.model.specs.Play.{Played, going, waits, lacks, cellsIn}
 use Rattle.model.specs.Answers.{Answer, done, refused, badFrame}
 use Rattle.model.specs.Replica.{Left, readCell, auditPlay, asPlayed, lowestFalse, auditLeft, audit}
 use Rattle.model.specs.Histories.{inLog, isRefused, History, wholeLog, ranTo}
-use Rattle.model.specs.Conditions.{Framed}
+use Rattle.model.specs.Terms.{GoodFrame}
 use Rattle.model.specs.Claims.{Agrees, writtenBy, HasRoom, tellingOf, Audits, AuditsExactly}
 use Rattle.model.specs.Worked.{code}
 use Rattle.laws.proofs.Items.{cell-object}
@@ -31,7 +31,7 @@ use Rattle.laws.proofs.Refusals.{not-none, lowest-none}
 use Rattle.laws.proofs.Tables.{cells-back}
 use Rattle.laws.proofs.Room.{play-fits, length-with}
 use Rattle.laws.proofs.Appends.{good-kept}
-use Rattle.claims.proofs.Conditions.{words-frame}
+use Rattle.claims.proofs.Terms.{words-frame}
 use Rattle.claims.proofs.KeepsGood.{keeps-good}
 use Rattle.claims.proofs.Cells.{Shown, shown-fits, how-many}
 use Rattle.claims.proofs.Runs.{run}
@@ -172,7 +172,7 @@ module _ (sh : Shape) (shape : okShape sh ≡ true) (h : History) (scratch : Lis
 
   -- ---- which end it is
 
-  module _ (framed : Framed sh (wholeLog sh h)) where
+  module _ (framed : GoodFrame sh (wholeLog sh h)) where
     frame : badFrame sh.layout log ≡ false
     frame = words-frame sh shape (wholeLog sh h) framed
 

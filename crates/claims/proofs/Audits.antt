@@ -13,7 +13,7 @@ use Rattle.lists.specs.Tests.{and-r, ands, ors, both, beq-true, clash}
 use Rattle.lists.specs.Sets.{all, within}
 use Rattle.model.specs.Slot.{mostSlots, okShape}
 use Rattle.model.specs.Objects.{Shape, ids, isCell, everything}
-use Rattle.model.specs.Entries.{Decision, Write, Read, Claim, Entry, plain, numbered, commit, decision, checkpoint, blank, Effect, writes, aside, tries, inert, effect, Log, commitIn, ifSome, readObjects}
+use Rattle.model.specs.Entries.{Decision, Write, Read, Condition, Entry, plain, numbered, commit, decision, checkpoint, blank, Effect, writes, aside, tries, inert, effect, Log, commitIn, ifSome, readObjects}
 use Rattle.model.specs.Rules.{okWrite, okWrites, okRead, okReads, okEntry, lowestBad}
 use Rattle.model.specs.Table.{Cell, lookup, capacity}
 use Rattle.model.specs.Play.{Played, going, waits, lacks, cellsIn, alone, commitsOver, step, andThen, play}
@@ -92,7 +92,7 @@ module _ (sh : Shape) (log : Log) (tail : ℕ) (kept : Kept sh log tail) where
       now ws blank k q = clash true refl (cc)
 
   -- a commit record's reads are all hosted by the audit
-  pub hosted-reads : (p n : ℕ) (c : Claim) → p < tail → effect (log .entry p) ≡ tries n c → alone sh (ids sh) c ≡ true
+  pub hosted-reads : (p n : ℕ) (c : Condition) → p < tail → effect (log .entry p) ≡ tries n c → alone sh (ids sh) c ≡ true
   unfolding okEntry okReads
   hosted-reads p n c l e = go (log .entry p) (kept p l) e
     where
@@ -157,7 +157,7 @@ module _ (sh : Shape) (shape : okShape sh ≡ true) (log : Log) (room : ℕ) (fr
   commits-same o l g = go (effect (log .entry o)) refl
     where
       go : (e : Effect) → effect (log .entry o) ≡ e
-          → ifSome (commitIn e) false (λ c. commitsOver (lookup (cellsIn (auditPlay sh log room o))) (c .claim)) ≡ ifSome (commitIn e) false (λ c. current (run log o .cells) (c .claim .reads))
+          → ifSome (commitIn e) false (λ c. commitsOver (lookup (cellsIn (auditPlay sh log room o))) (c .condition)) ≡ ifSome (commitIn e) false (λ c. current (run log o .cells) (c .condition .reads))
       go (writes ws) e = refl
       go (aside n ws) e = refl
       go (tries n c) e = reads-same sh (ids sh) (c .reads) (cellsIn (auditPlay sh log room o)) (run log o .cells) (played-shows o (omega arith) g) (hosted-reads sh log (log .tail) kept o n c l e)

@@ -16,7 +16,7 @@ use Rattle.model.specs.Entries.{Saved}
 use Rattle.model.specs.Rules.{savedBefore}
 use Rattle.model.specs.Table.{Cell, lookup, savedOf}
 use Rattle.model.specs.Replica.{sameContent, sameSaved}
-use Rattle.model.specs.Conditions.{savedFor}
+use Rattle.model.specs.Terms.{savedFor}
 use Rattle.laws.proofs.Refusals.{not-none}
 use Rattle.laws.proofs.Appends.{saved-ascends}
 use Rattle.claims.proofs.Saved.{saved-for}

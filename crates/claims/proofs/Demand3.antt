@@ -11,15 +11,15 @@ use lib.Dec.{eqb}
 use Rattle.lists.specs.Tests.{and-l, neither, clash}
 use Rattle.lists.specs.Sets.{mem}
 use Rattle.model.specs.Objects.{Shape, isCell, hosted}
-use Rattle.model.specs.Entries.{Read, Held, Claim, Log}
+use Rattle.model.specs.Entries.{Read, Held, Condition, Log}
 use Rattle.model.specs.Slot.{logIn, okShape}
 use Rattle.model.specs.Table.{cellsOf, capacity, lookup, versionIn}
 use Rattle.model.specs.Answers.{done, refuse, firstOf, answer}
-use Rattle.model.specs.Append.{Request, commits, claimGiven, badRecord}
+use Rattle.model.specs.Append.{Request, commits, conditionGiven, badRecord}
 use Rattle.model.specs.Replica.{plainly, readCell}
 use Rattle.model.specs.Run.{current}
 use Rattle.model.specs.Histories.{Lent, Accepted, grown, empty, isRefused, inLog, History, wholeLog, stood, ranTo, Passed, Carried, carried, Opening, fresh, atCheckpoint, opened, Play, played, plays, hosts, shown, cellsWritten}
-use Rattle.model.specs.Conditions.{Fit, Playable}
+use Rattle.model.specs.Terms.{Fit, Playable}
 use Rattle.model.specs.Claims.{Shows, Demand3}
 use Rattle.laws.proofs.Tables.{length-cells}
 use Rattle.laws.proofs.Refusals.{good-below}
@@ -30,7 +30,7 @@ use Rattle.claims.proofs.Audits.{Sound, audit-passed}
 use Rattle.claims.proofs.Openings.{hosted-none}
 use Rattle.claims.proofs.Histories.{grown-append, accepted-below, run-at, Stood, stood-so}
 use Rattle.claims.proofs.Replicas.{Good, fresh-good, open-good, play-good, play-lacking}
-use Rattle.claims.proofs.Conditions.{frame-words}
+use Rattle.claims.proofs.Terms.{frame-words}
 use Rattle.claims.proofs.Leaves.{words-replica, words-stop, play-leaves, refit, answered}
 
 -- ---- cell reading
@@ -105,7 +105,7 @@ module _ (sh : Shape) (shape : okShape sh ≡ true) (h : History) (room : ℕ) (
         let k = play-lacking sh shape (whole sh h) (at sh h p) (was (p .stoodAfter)) r (p .stop) g (words-replica (l .tail) r (p .stop) f, words-stop (l .tail) r (p .stop) f) e in
         rw (run-at sh shape h (played sh h r p .replica .position + 1) (k .next)) (k .many)
 
-    reread : (p : ℕ) (c : Claim) (x : Read) (held : Option Held) → p < wholeLog sh h .tail → current (ranTo sh h p .cells) (c .reads) ≡ true
+    reread : (p : ℕ) (c : Condition) (x : Read) (held : Option Held) → p < wholeLog sh h .tail → current (ranTo sh h p .cells) (c .reads) ≡ true
         → List·Memᴰ x (c .reads) → shown sh r x.object x.key ≡ done held → versionIn held ≡ x .version → ranTo sh h p .cells x.object x.key ≡ held
     reread p c x held l cur m e v =
         let now : run (whole sh h) (r .replica .position) .cells x.object x.key ≡ held = read-back sh (whole sh h) r g (x .object) (x .key) held e in
@@ -133,7 +133,7 @@ module _ (sh : Shape) (shape : okShape sh ≡ true) (h : History) (room : ℕ) (
       lacks = lacking;
       rereads = λ before later n items e taken fresh x held m i v.
           let l : Lent = grown sh (empty (h .bytes)) before in
-          reread (l .tail) (claimGiven items) x held (turn-below before later (commits n items) e taken) (none-stale (ranTo sh h (l .tail) .cells) (claimGiven items) fresh) m i v;
+          reread (l .tail) (conditionGiven items) x held (turn-below before later (commits n items) e taken) (none-stale (ranTo sh h (l .tail) .cells) (conditionGiven items) fresh) m i v;
     }
 
 -- what holds of a replica after its plays

@@ -12,7 +12,7 @@ use lib.Dec.{eqb}
 use Rattle.lists.specs.Tests.{ands, clash}
 use Rattle.lists.specs.Sets.{mem, ascending}
 use Rattle.model.specs.Objects.{Shape, ids, isObject}
-use Rattle.model.specs.Entries.{Decision, Saved, Claim, commit, decision, checkpoint, Log}
+use Rattle.model.specs.Entries.{Decision, Saved, Condition, commit, decision, checkpoint, Log}
 use Rattle.model.specs.Slot.{okShape}
 use Rattle.model.specs.Rules.{okEntry, lowestBad, savedBefore}
 use Rattle.model.specs.Table.{Holds}
@@ -20,7 +20,7 @@ use Rattle.model.specs.Play.{cellsIn}
 use Rattle.model.specs.Answers.{badFrame}
 use Rattle.model.specs.Replica.{auditPlay, commitsThere, asPlayed}
 use Rattle.model.specs.Run.{current}
-use Rattle.model.specs.Conditions.{Stale, savedFor}
+use Rattle.model.specs.Terms.{Stale, savedFor}
 use Rattle.laws.proofs.Appends.{good-kept}
 use Rattle.claims.proofs.Runs.{run, commitsAt}
 use Rattle.claims.proofs.Aborts.{stale-old, old-stale}
@@ -28,7 +28,7 @@ use Rattle.claims.proofs.Audits.{isGoing, goes-back, played-shows, comm
 use Rattle.claims.proofs.Checkpoints.{same-said}
 
 -- an outcome and a test of reads
-says-stale : (v : ℕ) (cells : Holds) (c : Claim) → (Bool·beq (eqb v 1) (current cells (c .reads)) ≡ true) ↔ ((v ≡ 1) ↔ (Stale cells c → ⊥))
+says-stale : (v : ℕ) (cells : Holds) (c : Condition) → (Bool·beq (eqb v 1) (current cells (c .reads)) ≡ true) ↔ ((v ≡ 1) ↔ (Stale cells c → ⊥))
 says-stale v cells c = go (eqb v 1) (current cells (c .reads)) refl refl
   where
     fresh : current cells (c .reads) ≡ true → Stale cells c → ⊥
@@ -42,7 +42,7 @@ says-stale v cells c = go (eqb v 1) (current cells (c .reads)) refl refl
 
 module _ (sh : Shape) (shape : okShape sh ≡ true) (log : Log) (room : ℕ) (frame : badFrame sh.layout log ≡ false) (good : lowestBad sh log ≡ none)
     (ended : isGoing (auditPlay sh log room (log .tail)) ≡ true) where
-  pub decision-judged : (d : ℕ) (r : Decision) (n : ℕ) (c : Claim) → d < log .tail → r .offset < d → log .entry (r .offset) ≡ commit n c
+  pub decision-judged : (d : ℕ) (r : Decision) (n : ℕ) (c : Condition) → d < log .tail → r .offset < d → log .entry (r .offset) ≡ commit n c
       → (asPlayed sh log room d (decision r) ≡ true) ↔ ((r .outcome ≡ 1) ↔ (Stale (run log (r .offset) .cells) c → ⊥))
   decision-judged d r n c l b i =
       let o : ℕ = r .offset in

@@ -19,11 +19,11 @@ use Rattle.model.specs.Answers.{Refusal, refused, refuse, refuseAt, firstOf, ba
 use Rattle.model.specs.Append.{Replica, badReplica}
 use Rattle.model.specs.Replica.{Left, plainly, badStop, playRefusal, leftBy, playGiven, playFrom, playCall}
 use Rattle.model.specs.Histories.{Lent, inLog, isRefused, Carried, playOn, hosts}
-use Rattle.model.specs.Conditions.{Fit, Playable, Ended, there, waiting, noRoom}
+use Rattle.model.specs.Terms.{Fit, Playable, Ended, there, waiting, noRoom}
 use Rattle.model.specs.Claims.{Waiting, doneWith, PlayLeaves}
 use Rattle.model.specs.Worked.{code}
 use Rattle.laws.proofs.Refusals.{not-none, all-pass, refuse-none, refuseAt-none, good-below, below-good}
-use Rattle.claims.proofs.Conditions.{frame-words, words-frame}
+use Rattle.claims.proofs.Terms.{frame-words, words-frame}
 use Rattle.claims.proofs.Reached.{standsAt, Reached, play-reached}
 use Rattle.claims.proofs.Waits.{play-waits, play-ends}
 use Rattle.claims.proofs.Rooms.{left-lacks}

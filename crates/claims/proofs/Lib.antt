@@ -1,4 +1,4 @@
-pub mod Conditions
+pub mod Terms
 pub mod Aborts
 pub mod ReadBack
 pub mod SameBytes

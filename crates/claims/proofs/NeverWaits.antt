@@ -11,7 +11,7 @@ use lib.ListN.{length}
 use Rattle.lists.specs.Tests.{clash}
 use Rattle.lists.specs.Sets.{meets}
 use Rattle.model.specs.Objects.{Shape, ids, everything}
-use Rattle.model.specs.Entries.{Write, Claim, Effect, writes, aside, tries, inert, effect, Log, writesOf, headerObjects}
+use Rattle.model.specs.Entries.{Write, Condition, Effect, writes, aside, tries, inert, effect, Log, writesOf, headerObjects}
 use Rattle.model.specs.Rules.{lowestBad}
 use Rattle.model.specs.Table.{Cell, lookup, capacity, apply}
 use Rattle.model.specs.Play.{Played, going, waits, lacks, commitsOver, alone, make, finish, act, step, andThen, play}
@@ -30,7 +30,7 @@ isWaiting (lacks q cs) = false
 
 -- ---- a step that decides alone
 
-module _ (sh : Shape) (log : Log) (set : List ℕ) (room p : ℕ) (cs : List Cell) (hosts : (n : ℕ) (c : Claim) → effect (log .entry p) ≡ tries n c → alone sh set c ≡ true) where
+module _ (sh : Shape) (log : Log) (set : List ℕ) (room p : ℕ) (cs : List Cell) (hosts : (n : ℕ) (c : Condition) → effect (log .entry p) ≡ tries n c → alone sh set c ≡ true) where
   make-on : (ws : List Write) → isWaiting (make set room p ws cs) ≡ false
   make-on ws = go (leb (length (apply set (p + 1) ws cs)) room)
     where
@@ -57,7 +57,7 @@ module _ (sh : Shape) (log : Log) (set : List ℕ) (room p : ℕ) (cs : List Cel
       go false = refl
 
 play-on : (sh : Shape) (log : Log) (set : List ℕ) (room p : ℕ) (cs : List Cell) (m : ℕ)
-    → ((q : ℕ) → q < p + m → (n : ℕ) (c : Claim) → effect (log .entry q) ≡ tries n c → alone sh set c ≡ true)
+    → ((q : ℕ) → q < p + m → (n : ℕ) (c : Condition) → effect (log .entry q) ≡ tries n c → alone sh set c ≡ true)
     → isWaiting (play sh log set room p cs m) ≡ false
 unfolding play
 play-on sh log set room p cs zero hosts = refl

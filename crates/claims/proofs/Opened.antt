@@ -26,7 +26,7 @@ use Rattle.laws.proofs.Refusals.{all-pass, refuse-none, refuseAt-none, below-go
 use Rattle.laws.proofs.Tables.{length-stored, cells-back}
 use Rattle.laws.proofs.Appends.{good-kept}
 use Rattle.claims.proofs.Cells.{shown-fits}
-use Rattle.claims.proofs.Conditions.{words-frame}
+use Rattle.claims.proofs.Terms.{words-frame}
 use Rattle.claims.proofs.Audits.{tail-small}
 use Rattle.claims.proofs.Openings.{hosted-one, loaded, loaded-owned, checkpoint-object}
 

@@ -16,7 +16,7 @@ use Rattle.model.specs.Slot.{valueField, mostSlots, okShape}
 use Rattle.model.specs.Rules.{fits, okSaved, savedBefore, okEntry}
 use Rattle.model.specs.Table.{Cell, lookup, cellOf, savedOf}
 use Rattle.model.specs.Play.{cellsIn}
-use Rattle.model.specs.Conditions.{savedFor}
+use Rattle.model.specs.Terms.{savedFor}
 use Rattle.model.specs.Replica.{auditPlay, asPlayed}
 use Rattle.laws.proofs.Items.{fitsCell, cell-small}
 use Rattle.laws.proofs.Appends.{good-kept}

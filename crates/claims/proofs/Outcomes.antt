@@ -14,7 +14,7 @@ use Rattle.lists.specs.Tests.{clash}
 use Rattle.lists.specs.Sets.{mem}
 use Rattle.lists.specs.Rows.{getD-values-past}
 use Rattle.model.specs.Objects.{Shape, isCell, hosted}
-use Rattle.model.specs.Entries.{Claim, Entry, commit, blank, effect, Log}
+use Rattle.model.specs.Entries.{Condition, Entry, commit, blank, effect, Log}
 use Rattle.model.specs.Slot.{logIn, okShape}
 use Rattle.model.specs.Table.{Holds, capacity}
 use Rattle.model.specs.Play.{Played, going, waits, lacks}
@@ -23,7 +23,7 @@ use Rattle.model.specs.Append.{Replica}
 use Rattle.model.specs.Replica.{Left, plainly, playRefusal, leftBy, playGiven, playFrom, playCall, readCell}
 use Rattle.model.specs.Run.{Run, current, madeAll}
 use Rattle.model.specs.Histories.{Lent, inLog, isRefused, History, wholeLog, stood, ranTo, Carried, carried, Play, played, plays, hosts, cellsWritten}
-use Rattle.model.specs.Conditions.{Stale, Concerns, Blocked, Fit, Ended, there, waiting, noRoom}
+use Rattle.model.specs.Terms.{Stale, Concerns, Blocked, Fit, Ended, there, waiting, noRoom}
 use Rattle.model.specs.Claims.{Waiting, Shows, SameOutcome, SameOutcomes}
 use Rattle.claims.proofs.Runs.{cellsAfter, run, cells-run}
 use Rattle.claims.proofs.Aborts.{stale-old, none-stale}
@@ -54,7 +54,7 @@ plays-hosting sh h r (p ∷ ps) =
 
 -- ---- an entry lies below the tail
 
-commit-below : (sh : Shape) (l : Lent) (p m : ℕ) (c : Claim) → inLog sh l .entry p ≡ commit m c → p < l .tail
+commit-below : (sh : Shape) (l : Lent) (p m : ℕ) (c : Condition) → inLog sh l .entry p ≡ commit m c → p < l .tail
 unfolding logIn
 commit-below sh l p m c e = go (ltb p (l .tail)) refl
   where
@@ -71,7 +71,7 @@ plays-more sh h r (q ∷ ps) p = plays-more sh h (carried (played sh h r q)) ps 
 
 -- ---- the run at a commit record
 
-module _ (sh : Shape) (shape : okShape sh ≡ true) (h : History) (p n : ℕ) (c : Claim)
+module _ (sh : Shape) (shape : okShape sh ≡ true) (h : History) (p n : ℕ) (c : Condition)
     (low : p < wholeLog sh h .tail) (here : inLog sh (wholeLog sh h) .entry p ≡ commit n c) where
   ran-next : ranTo sh h (p + 1) .cells ≡ cond (current (ranTo sh h p .cells) (c .reads)) (madeAll (p + 1) (ranTo sh h p .aside n) (ranTo sh h p .cells)) (ranTo sh h p .cells)
   ran-next =
@@ -90,7 +90,7 @@ module _ (sh : Shape) (shape : okShape sh ≡ true) (h : History) (p n : ℕ) (c
 
 -- ---- the outcomes
 
-module _ (sh : Shape) (h : History) (x : Carried) (m n : ℕ) (c : Claim) (shows : Shows sh h x)
+module _ (sh : Shape) (h : History) (x : Carried) (m n : ℕ) (c : Condition) (shows : Shows sh h x)
     (fit : Fit (stood sh h m .tail) x (x .replica .position + 1)) (concerns : Concerns (inLog sh (stood sh h m)) (hosts sh x) n (x .replica .position)) where
   abbrev p : ℕ
   p = x .replica .position

@@ -24,7 +24,7 @@ use Rattle.model.specs.Answers.{done, answer}
 use Rattle.model.specs.Reading.{Header, headerAt, kindIn, infoIn, entryRefusal, entryCall, stretch, orEmpty, itemList}
 use Rattle.model.specs.Append.{Request, update, commits, decides, saves, writesGiven, entryOf}
 use Rattle.model.specs.Histories.{Lent, inLog, tailAfter, appendTo, after, Accepted, grown}
-use Rattle.model.specs.Conditions.{SetAside, Allowed}
+use Rattle.model.specs.Terms.{SetAside, Allowed}
 use Rattle.model.specs.Claims.{WroteOneSlot, WritesOneSlot, kindGiven, NumberGiven, ObjectsGiven, ItemsGiven, headerObjectsIn, Back, ReadsBack}
 use Rattle.laws.proofs.Slots.{Kept, headers-few, number-fits, items-few, slot-mark, slot-count, slot-number, slot-items}
 use Rattle.laws.proofs.Stored.{given-writes, given-reads, update-items}
@@ -32,7 +32,7 @@ use Rattle.laws.proofs.Decisions.{headers-ascend}
 use Rattle.laws.proofs.Headers.{headers-small, objects-read}
 use Rattle.laws.proofs.Appends.{Accepted as Exit, saved-ascends, accepted, good-kept, passed, wrote}
 use Rattle.laws.proofs.ByKind.{update-mark, update-number, update-objects}
-use Rattle.claims.proofs.Conditions.{writes-aside, aside-writes}
+use Rattle.claims.proofs.Terms.{writes-aside, aside-writes}
 use Rattle.claims.proofs.KeepsGood.{grown-good}
 use Rattle.claims.proofs.Later.{Later, grown-later, slot-later}
 use Rattle.claims.proofs.Saved.{saved-for}

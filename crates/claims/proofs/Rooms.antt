@@ -13,12 +13,12 @@ use lib.ListN.{length}
 use Rattle.lists.specs.Tests.{clash}
 use Rattle.lists.specs.Sets.{meets}
 use Rattle.model.specs.Objects.{Shape}
-use Rattle.model.specs.Entries.{Write, Claim, Entry, plain, numbered, commit, decision, checkpoint, blank, effect, Log, writesOf, headerObjects}
+use Rattle.model.specs.Entries.{Write, Condition, Entry, plain, numbered, commit, decision, checkpoint, blank, effect, Log, writesOf, headerObjects}
 use Rattle.model.specs.Table.{Cell, apply}
 use Rattle.model.specs.Play.{Played, going, waits, lacks, outcome, make, finish, act, step, andThen, play}
 use Rattle.model.specs.Replica.{plainly, leftBy}
 use Rattle.model.specs.Histories.{isRefused}
-use Rattle.model.specs.Conditions.{Makes}
+use Rattle.model.specs.Terms.{Makes}
 use Rattle.model.specs.Worked.{code}
 use Rattle.claims.proofs.Cells.{apply-few}
 
@@ -42,7 +42,7 @@ module _ (sh : Shape) (log : Log) (set : List ℕ) (room : ℕ) where
   entry-lacks : (p : ℕ) (cs : List Cell) (e : Entry) → log .entry p ≡ e → Lacks (cond (meets set (headerObjects log p e)) (act sh log set room p cs (effect e)) (going cs))
   entry-lacks p cs e i = go (meets set (headerObjects log p e))
     where
-      by : (n : ℕ) (c : Claim) → log .entry p ≡ commit n c → (o : Option Bool) → Lacks (finish set room p (writesOf log n p) cs o)
+      by : (n : ℕ) (c : Condition) → log .entry p ≡ commit n c → (o : Option Bool) → Lacks (finish set room p (writesOf log n p) cs o)
       by n c j none = tt
       by n c j (some true) = make-lacks p (writesOf log n p) cs (inr (n, c, j, refl))
       by n c j (some false) = tt

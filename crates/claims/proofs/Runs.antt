@@ -71,7 +71,7 @@ run-agree log log′ (suc p) a = rw (run-agree log log′ p (fewer log log′ (s
 
 -- whether the commit record at p commits in the run
 abbrev pub commitsAt : Log → ℕ → Bool
-commitsAt log p = ifSome (commitAt log p) false (λ c. current (run log p .cells) (c .claim .reads))
+commitsAt log p = ifSome (commitAt log p) false (λ c. current (run log p .cells) (c .condition .reads))
 
 turned : (a b : ℕ) → eqb a b ≡ eqb b a
 turned a b = go (eqb a b) refl

@@ -13,7 +13,7 @@ use Rattle.lists.specs.Sets.{all, mem, ascending, first-leads, rest-ascends}
 use Rattle.model.specs.Entries.{Held, Saved}
 use Rattle.model.specs.Rules.{savedBefore}
 use Rattle.model.specs.Table.{Cell, heldBy, lookup, insertSaved, savedOf}
-use Rattle.model.specs.Conditions.{savedFor}
+use Rattle.model.specs.Terms.{savedFor}
 use Rattle.laws.proofs.Refusals.{not-none}
 
 -- ---- the table

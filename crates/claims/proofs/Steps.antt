@@ -13,7 +13,7 @@ use lib.ListN.{length}
 use Rattle.lists.specs.Tests.{and-l, and-r, or-l, or-r, clash}
 use Rattle.lists.specs.Sets.{all, mem, meets, within, ascendingSet, any-set}
 use Rattle.model.specs.Objects.{Shape}
-use Rattle.model.specs.Entries.{Decision, Write, Read, Claim, Entry, plain, numbered, commit, decision, checkpoint, blank, Effect, writes, aside, tries, inert, effect, Log, writtenObjects, readObjects, writesOf, outcomeAfter, decided, headerObjects}
+use Rattle.model.specs.Entries.{Decision, Write, Read, Condition, Entry, plain, numbered, commit, decision, checkpoint, blank, Effect, writes, aside, tries, inert, effect, Log, writtenObjects, readObjects, writesOf, outcomeAfter, decided, headerObjects}
 use Rattle.model.specs.Slot.{okShape}
 use Rattle.model.specs.Rules.{okWrite}
 use Rattle.model.specs.Table.{Cell, Holds, lookup, apply, versionIn}
@@ -70,7 +70,7 @@ decided-true log (suc t) q v tr h = go (λ h′. decided-true log t q v (λ d l.
 
 -- what a decision record says of the commit record at p is the run's outcome, where the reads are not all hosted
 abbrev pub Trust : Shape → Log → List ℕ → ℕ → Type 0
-Trust sh log set p = (n : ℕ) (c : Claim) → effect (log .entry p) ≡ tries n c → alone sh set c ≡ false
+Trust sh log set p = (n : ℕ) (c : Condition) → effect (log .entry p) ≡ tries n c → alone sh set c ≡ false
     → (b : Bool) → saysCommit (decided log p (log .tail)) ≡ some b → b ≡ current (run log p .cells) (c .reads)
 
 pub trust : (sh : Shape) (log : Log) (set : List ℕ) (p : ℕ) → TrueBelow log (log .tail) → Trust sh log set p
@@ -81,7 +81,7 @@ trust sh log set p tr n c e w b h = go (decided log p (log .tail)) refl h
     go (some v) i j = let k : eqb v 1 ≡ b = cc in sym k ∙ decided-true log (log .tail) p v tr i ∙ rw e
 
 -- a replica's outcome of the commit record at p, where it has one, is the run's
-pub outcome-true : (sh : Shape) (log : Log) (set : List ℕ) (p : ℕ) (cs : List Cell) (n : ℕ) (c : Claim) (b : Bool)
+pub outcome-true : (sh : Shape) (log : Log) (set : List ℕ) (p : ℕ) (cs : List Cell) (n : ℕ) (c : Condition) (b : Bool)
     → Trust sh log set p → Shown sh set cs (run log p .cells) → effect (log .entry p) ≡ tries n c
     → outcome sh log set p cs c ≡ some b → b ≡ current (run log p .cells) (c .reads)
 outcome-true sh log set p cs n c b tr s e h = go (alone sh set c) refl h
@@ -131,17 +131,17 @@ module _ (sh : Shape) (shape : okShape sh ≡ true) (log : Log) (set : List ℕ)
     plain-ok ws e true m = make-ok ws (after (writes ws) e _ (made ws (placed .now ws e)))
     plain-ok ws e false m = after (writes ws) e cs (passed ws (placed .now ws e) m)
 
-    commit-after : (n : ℕ) (c : Claim) → effect (log .entry p) ≡ tries n c → (b : Bool) → b ≡ current (run log p .cells) (c .reads) → (cs′ : List Cell)
+    commit-after : (n : ℕ) (c : Condition) → effect (log .entry p) ≡ tries n c → (b : Bool) → b ≡ current (run log p .cells) (c .reads) → (cs′ : List Cell)
         → Shown sh set cs′ (cond b (madeAll (p + 1) (writesOf log n p) (run log p .cells)) (run log p .cells)) → Inv (suc p) cs′
     commit-after n c e b i cs′ s = after (tries n c) e cs′ (rw (← i, aside-run log n p) s)
 
-    finish-ok : (n : ℕ) (c : Claim) → effect (log .entry p) ≡ tries n c → (v : Option Bool) → ((b : Bool) → v ≡ some b → b ≡ current (run log p .cells) (c .reads))
+    finish-ok : (n : ℕ) (c : Condition) → effect (log .entry p) ≡ tries n c → (v : Option Bool) → ((b : Bool) → v ≡ some b → b ≡ current (run log p .cells) (c .reads))
         → Ok (suc p) (finish set room p (writesOf log n p) cs v)
     finish-ok n c e none t = (omega arith, inv)
     finish-ok n c e (some true) t = make-ok (writesOf log n p) (commit-after n c e true (t true refl) _ (made (writesOf log n p) (placed .late n)))
     finish-ok n c e (some false) t = commit-after n c e false (t false refl) cs inv
 
-    commit-ok : (n : ℕ) (c : Claim) → effect (log .entry p) ≡ tries n c → (m : Bool) → meets set (ascendingSet (writtenObjects (writesOf log n p))) ≡ m
+    commit-ok : (n : ℕ) (c : Condition) → effect (log .entry p) ≡ tries n c → (m : Bool) → meets set (ascendingSet (writtenObjects (writesOf log n p))) ≡ m
         → Ok (suc p) (cond m (finish set room p (writesOf log n p) cs (outcome sh log set p cs c)) (going cs))
     commit-ok n c e true m = finish-ok n c e (outcome sh log set p cs c) (λ b h. outcome-true sh log set p cs n c b tr inv e h)
     commit-ok n c e false m = commit-after n c e (current (run log p .cells) (c .reads)) refl cs (go (current (run log p .cells) (c .reads)))

@@ -19,10 +19,10 @@ use Rattle.model.specs.Table.{Cell, lookup, apply}
 use Rattle.model.specs.Play.{Played, going, waits, lacks, commitsOver, alone, saysCommit, make, finish, act, step, andThen, play}
 use Rattle.model.specs.Replica.{plainly, leftBy}
 use Rattle.model.specs.Histories.{isRefused}
-use Rattle.model.specs.Conditions.{Blocked, Ended, there, waiting, noRoom}
+use Rattle.model.specs.Terms.{Blocked, Ended, there, waiting, noRoom}
 use Rattle.model.specs.Claims.{Waiting}
 use Rattle.model.specs.Worked.{code}
-use Rattle.claims.proofs.Conditions.{concerns-words, words-concerns, undecided-words, words-undecided}
+use Rattle.claims.proofs.Terms.{concerns-words, words-concerns, undecided-words, words-undecided}
 
 -- what a step at p says of whether the entry there is blocked
 abbrev StepWait : ℕ → Bool → Played → Type 0
@@ -54,7 +54,7 @@ module _ (set : List ℕ) (room p : ℕ) (cs : List Cell) where
 
 -- whether an entry at p is blocked
 abbrev blockedBy : Shape → Log → List ℕ → ℕ → Option Commit → Bool
-blockedBy sh log set p x = ifSome x false (λ c. meets set (commitObjects log p (c .number)) && not (alone sh set (c .claim)) && isNone (decided log p (log .tail)))
+blockedBy sh log set p x = ifSome x false (λ c. meets set (commitObjects log p (c .number)) && not (alone sh set (c .condition)) && isNone (decided log p (log .tail)))
 
 module _ (sh : Shape) (log : Log) (set : List ℕ) (room : ℕ) where
   abbrev blocked : ℕ → Bool
@@ -124,7 +124,7 @@ module _ (sh : Shape) (log : Log) (set : List ℕ) (room : ℕ) where
           let (x, m, o) = all-false (λ (x : Read). mem x.object set) (c .reads) (sym (reads-hosted (c .reads)) ∙ not-true (alone sh set c) far) in
           record {
             number = n;
-            claim = c;
+            condition = c;
             here = i;
             concerns = concerns-words log set n q (search ands);
             outside = (x, m, o);
@@ -139,7 +139,7 @@ module _ (sh : Shape) (log : Log) (set : List ℕ) (room : ℕ) where
   words-blocked : (q : ℕ) → Blocked log set q → blocked q ≡ true
   words-blocked q b =
       let (x, m, o) = b .outside in
-      let far : alone sh set (b .claim) ≡ false = reads-hosted (b .claim .reads) ∙ false-all (λ (x : Read). mem x.object set) x (b .claim .reads) m o in
+      let far : alone sh set (b .condition) ≡ false = reads-hosted (b .condition .reads) ∙ false-all (λ (x : Read). mem x.object set) x (b .condition .reads) m o in
       rw (b .here) (both (both (words-concerns log set (b .number) q (b .concerns)) (ap not far)) (words-undecided log q (log .tail) (b .undecided)))
 
   -- what a play to a stop leaves is as demanded

@@ -21,7 +21,7 @@ use Rattle.model.specs.Slot.{valueField, itemSize}
 use Rattle.model.specs.Rules.{fits, okWrite, okWrites, narrow, readBefore, okRead, okReads, okSaved}
 use Rattle.model.specs.Table.{Cell, lookup, savedOf}
 use Rattle.model.specs.Append.{itemsGiven, notWhole, ifNumbered}
-use Rattle.model.specs.Conditions.{AtMost, Writes, Ascend, Saves}
+use Rattle.model.specs.Terms.{AtMost, Writes, Ascend, Saves}
 use Rattle.laws.proofs.Appends.{saved-ascends}
 use Rattle.claims.proofs.Few.{ascending-few, few-numbers}
 use Rattle.claims.proofs.Saved.{saved-for, savedAs, keysOf, all-for, for-all, held-key, key-held, keys-ascend}

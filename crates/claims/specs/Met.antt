@@ -18,7 +18,7 @@ use Rattle.model.specs.Rules.{okEntry, lowest, lowestBad, okWrite, okWrites, ok
 use Rattle.model.specs.Table.{Cell, cellAt, cellBytes, cellsOf, tableWith, apply, savedOf, lookup, store}
 use Rattle.model.specs.Play.{play, commitsOver, step}
 use Rattle.model.specs.Answers.{Answer, done, badFrame}
-use Rattle.model.specs.Append.{Request, update, commits, decides, saves, claimGiven, entryOf, ownTests, append}
+use Rattle.model.specs.Append.{Request, update, commits, decides, saves, conditionGiven, entryOf, ownTests, append}
 use Rattle.model.specs.Replica.{Left, plainly, openFresh, openAt, playCall, readCell, audit}
 use Rattle.model.specs.Run.{Fed, Run, start, current, accept, runAt}
 use Rattle.model.specs.Histories.{Lent, isRefused, inLog, appendTo, grown, feed, empty, History, wholeLog, stood, ranTo, Passed, Carried, carried, ifOpened, fresh, atCheckpoint, opened, Play, played, plays, shown}
@@ -87,13 +87,13 @@ ran : (p : ℕ) → ranTo depots met p ≡ runAt p start fed
 ran p = ap (runAt p start) feeds
 
 -- number 9 commits at 2, and number 10 aborts at 5
-pub nine-commits : current (ranTo depots met 2 .cells) (claimGiven (read 2 7 0) .reads) ≡ true
+pub nine-commits : current (ranTo depots met 2 .cells) (conditionGiven (read 2 7 0) .reads) ≡ true
 unfolding beAt bytesOf splice values joined first firstFrom eqList writesOf closed decided headerObjects repeats objectsIn earlier writeBytes writeAt readBytes readAt savedBytes savedAt itemBytes itemCount headerOf slotOf decode slot logIn okEntry lowest lowestBad cellAt cellBytes cellsOf tableWith apply savedOf play commitsOver entryOf ownTests append openFresh openAt playCall readCell audit accept runAt grown feed isObject isCell isMarked hosted okWrite okWrites okRead okReads okSaved narrow goodAt lookup store step badFrame
-nine-commits = ap (λ (s : Run). current (s .cells) (claimGiven (read 2 7 0) .reads)) (ran 2)
+nine-commits = ap (λ (s : Run). current (s .cells) (conditionGiven (read 2 7 0) .reads)) (ran 2)
 
-pub ten-aborts : current (ranTo depots met 5 .cells) (claimGiven (read 5 1 0) .reads) ≡ false
+pub ten-aborts : current (ranTo depots met 5 .cells) (conditionGiven (read 5 1 0) .reads) ≡ false
 unfolding beAt bytesOf splice values joined first firstFrom eqList writesOf closed decided headerObjects repeats objectsIn earlier writeBytes writeAt readBytes readAt savedBytes savedAt itemBytes itemCount headerOf slotOf decode slot logIn okEntry lowest lowestBad cellAt cellBytes cellsOf tableWith apply savedOf play commitsOver entryOf ownTests append openFresh openAt playCall readCell audit accept runAt grown feed isObject isCell isMarked hosted okWrite okWrites okRead okReads okSaved narrow goodAt lookup store step badFrame
-ten-aborts = ap (λ (s : Run). current (s .cells) (claimGiven (read 5 1 0) .reads)) (ran 5)
+ten-aborts = ap (λ (s : Run). current (s .cells) (conditionGiven (read 5 1 0) .reads)) (ran 5)
 
 ran-left : runAt 6 start fed .cells 5 1 ≡ some left
 unfolding beAt bytesOf splice values joined first firstFrom eqList writesOf closed decided headerObjects repeats objectsIn earlier writeBytes writeAt readBytes readAt savedBytes savedAt itemBytes itemCount headerOf slotOf decode slot logIn okEntry lowest lowestBad cellAt cellBytes cellsOf tableWith apply savedOf play commitsOver entryOf ownTests append openFresh openAt playCall readCell audit accept runAt grown feed isObject isCell isMarked hosted okWrite okWrites okRead okReads okSaved narrow goodAt lookup store step badFrame

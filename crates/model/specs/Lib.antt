@@ -10,7 +10,7 @@ pub mod Append
 pub mod Replica
 pub mod Run
 pub mod Histories
-pub mod Conditions
+pub mod Terms
 pub mod Claims
 pub mod Report
 pub mod Worked

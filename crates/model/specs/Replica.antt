@@ -104,7 +104,7 @@ auditPlay sh log room p = let b = beginning log (ids sh) in play sh log (ids sh)
 
 -- whether the commit record at p commits over the cells as played to it
 abbrev pub commitsThere : Shape → Log → ℕ → ℕ → Bool
-commitsThere sh log room p = ifSome (commitAt log p) false (λ c. commitsOver (lookup (cellsIn (auditPlay sh log room p))) (c .claim))
+commitsThere sh log room p = ifSome (commitAt log p) false (λ c. commitsOver (lookup (cellsIn (auditPlay sh log room p))) (c .condition))
 
 -- equal lists of a checkpoint's cells
 abbrev pub sameContent : Option ℕ → Option ℕ → Bool

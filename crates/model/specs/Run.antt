@@ -6,7 +6,7 @@ use mathlib.Core.Option.{Option, none, some}
 use lib.Dec.{eqb}
 use Rattle.model.specs.Entries.{Write, Read, Held, contentOf}
 use Rattle.model.specs.Table.{Holds}
-use Rattle.model.specs.Append.{Request, update, commits, decides, saves, writesGiven, claimGiven}
+use Rattle.model.specs.Append.{Request, update, commits, decides, saves, writesGiven, conditionGiven}
 
 -- what the run is fed: an append's arguments, and whether it was refused (12.1)
 pub record Fed : Type 0 where
@@ -53,7 +53,7 @@ accept count s (update n items) = cond (eqb n 0)
     (record { count = count; cells = s .cells; aside = setAside n (writesGiven items) (s .aside) })
 accept count s (commits n items) = record {
   count = count;
-  cells = cond (current (s .cells) (claimGiven items .reads)) (madeAll count (s .aside n) (s .cells)) (s .cells);
+  cells = cond (current (s .cells) (conditionGiven items .reads)) (madeAll count (s .aside n) (s .cells)) (s .cells);
   aside = s .aside;
 }
 accept count s (decides o v) = record { count = count; cells = s .cells; aside = s .aside }

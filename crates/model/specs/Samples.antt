@@ -106,7 +106,7 @@ backsHold l (q ∷ qs) = let new = after small l q in (eqb (new .tail) (l .tail)
 -- Blocked as a test
 abbrev pub blocked : Log → List ℕ → ℕ → Bool
 blocked log set q = ifSome (commitAt log q) false (λ c. meets set (commitObjects log q (c .number))
-    && any (λ (x : Read). not (mem x.object set)) (c .claim .reads)
+    && any (λ (x : Read). not (mem x.object set)) (c .condition .reads)
     && below (λ d. ifSome (decisionIn (log .entry d)) true (λ (r : Decision). not (eqb r.offset q))) (log .tail))
 
 -- Shows, with the next play of the sample
@@ -130,15 +130,15 @@ rereadHolds r cells x = same (shown small r x.object x.key)
 -- (the run at count p is `ran p`)
 abbrev pub rereadsHold : (ℕ → Run) → Log → Carried → Bool
 rereadsHold ran log r = below (λ p. ifSome (commitAt log p) true
-    (λ c. not (current (ran p .cells) (c .claim .reads)) || all (rereadHolds r (ran p .cells)) (c .claim .reads))) (log .tail)
+    (λ c. not (current (ran p .cells) (c .condition .reads)) || all (rereadHolds r (ran p .cells)) (c .condition .reads))) (log .tail)
 
 -- SameOutcomes at the replica's position
 abbrev pub outcomeHolds : (ℕ → Run) → Log → Carried → Bool
 outcomeHolds ran log r =
     let p = r .replica .position in
     ifSome (commitAt log p) true (λ c. not (meets (hosts small r) (commitObjects log p (c .number)))
-    || ifSome (outcome small log (hosts small r) p (cellsOf (r .table) (r .replica .count)) (c .claim)) true
-    (λ b. Bool·beq b (current (ran p .cells) (c .claim .reads))))
+    || ifSome (outcome small log (hosts small r) p (cellsOf (r .table) (r .replica .count)) (c .condition)) true
+    (λ b. Bool·beq b (current (ran p .cells) (c .condition .reads))))
 
 -- the parts of Shows that speak of the replica as it is
 abbrev pub cellsHold : (ℕ → Run) → Log → Carried → Bool

@@ -17,7 +17,7 @@ use Rattle.model.specs.Table.{Holds, versionIn}
 use Rattle.model.specs.Play.{commitsOver}
 use Rattle.model.specs.Answers.{Answer, done, refused}
 use Rattle.model.specs.Reading.{Info}
-use Rattle.model.specs.Append.{Replica, claimGiven}
+use Rattle.model.specs.Append.{Replica, conditionGiven}
 use Rattle.model.specs.Replica.{playCall}
 use Rattle.codec.specs.Marks.{kindOf}
 use Rattle.codec.specs.declared.marks.Mark.{Mark}
@@ -68,12 +68,12 @@ module _ (cells : Holds) (items : List ℕ) where
 
   -- the loop over the n reads met a stale one, or none
   module _ {n k : ℕ} (e : n ≡ length items / itemSize) (s : Seeking stale n k) where
-    outcome-by : (b : Bool) → all (current cells) (values readHere 0 n) ≡ b → b ≡ commitsOver cells (claimGiven items)
+    outcome-by : (b : Bool) → all (current cells) (values readHere 0 n) ≡ b → b ≡ commitsOver cells (conditionGiven items)
     unfolding commitsOver
     outcome-by b h = sym h ∙ ap (λ (m : ℕ). all (current cells) (values readHere 0 m)) e
 
-    pub aborts : k < n → stale k ≡ true → false ≡ commitsOver cells (claimGiven items)
+    pub aborts : k < n → stale k ≡ true → false ≡ commitsOver cells (conditionGiven items)
     aborts l t = outcome-by false (every-not (current cells) readHere s l t)
 
-    pub commits : n ≤ k → true ≡ commitsOver cells (claimGiven items)
+    pub commits : n ≤ k → true ≡ commitsOver cells (conditionGiven items)
     commits l = outcome-by true (every-all (current cells) readHere s l)

@@ -4,7 +4,7 @@ ghost use Rattle.model.specs.Objects.{depots};
 ghost use Rattle.model.specs.Reading.{entryCall, itemList};
 ghost use Rattle.codec.specs.Eight.{logOf};
 ghost use Rattle.codec.specs.Marks.{kindOf};
-ghost use Rattle.entries.specs.Answers.{headerOf, infoOf, foundIn};
+ghost use Rattle.entries.specs.Answers.{headerFrom, infoOf, foundIn};
 ghost use Rattle.stocklog.specs.Replies.{reply, coded, noValues, infoValues, itemsTold, entryReply, nth, headerIn, headerCall, headerValues, headerReply, itemsReply, partSaid};
 ghost use Rattle.stocklog.specs.Numbers.{numbersIn};
 use crate::numbers::Numbers;
@@ -61,7 +61,7 @@ pub extern "C" fn stocklog_entry(log: &[u8], tail: usize, offset: u64, out: &mut
 }
 
 fn of_header(h: Header) -> Numbers
-    ensures { λ n. ⌜ numbersIn n ≡ reply 0 (headerValues (headerOf h)) 0 ⌝ }
+    ensures { λ n. ⌜ numbersIn n ≡ reply 0 (headerValues (headerFrom h)) 0 ⌝ }
 {
     let id = h.object;
     crate::numbers::done(id.0 as u64, h.format as u64, h.pointer)

@@ -8,7 +8,7 @@ ghost use Rattle.codec.specs.Cells.{heldOf};
 ghost use Rattle.answers.specs.Refusals.{checkedIn};
 ghost use Rattle.records.specs.Record.{replicaIn};
 ghost use Rattle.replica.specs.Answers.{openedIn, readIn};
-ghost use Rattle.table.specs.Rows.{heldIn};
+ghost use Rattle.table.specs.Rows.{heldCase};
 ghost use Rattle.stocklog.specs.Replies.{reply, openReply, standReply, leftReply, cellValues, cellReply};
 ghost use Rattle.stocklog.specs.Numbers.{numbersIn};
 use crate::numbers::Numbers;
@@ -102,7 +102,7 @@ fn of_written(w: Written) -> Numbers
 
 // What a cell holds: 0 never written, 1 holds a value, 2 removed; the value; the version.
 fn of_held(h: Held) -> Numbers
-    ensures { λ m. ⌜ numbersIn m ≡ reply 0 (cellValues (heldIn h)) 0 ⌝ }
+    ensures { λ m. ⌜ numbersIn m ≡ reply 0 (cellValues (heldCase h)) 0 ⌝ }
 {
     match h {
         Held::Never => crate::numbers::done(0, 0, 0),

@@ -31,6 +31,6 @@ pub record RowFor (table : List ℕ) (count row o k : ℕ) (h : Held) : Type 0 w
 abbrev pub cellIn : Row → Cell
 cellIn r = record { object = r .object .0; key = r .key; value = r .value; present = r .present; version = r .version .0 }
 
-abbrev pub heldIn : code.Held → Option Held
-heldIn Never = none
-heldIn (Written h) = some (heldOf h)
+abbrev pub heldCase : code.Held → Option Held
+heldCase Never = none
+heldCase (Written h) = some (heldOf h)

@@ -10,19 +10,19 @@ use lib.Dec.{eqb}
 use lib.ListN.{length}
 use Rattle.lists.specs.Sets.{mem}
 use Rattle.model.specs.Objects.{Shape, isCell, hosted}
-use Rattle.model.specs.Entries.{Write, Read, Held, Saved, Claim, Decision, plain, numbered, commit, decision, Log, writesOf}
+use Rattle.model.specs.Entries.{Write, Read, Held, Saved, Condition, Decision, plain, numbered, commit, decision, Log, writesOf}
 use Rattle.model.specs.Slot.{mostSlots, itemSize}
 use Rattle.model.specs.Rules.{goodAt}
 use Rattle.model.specs.Table.{Holds, cellsOf, capacity, versionIn, lookup}
 use Rattle.model.specs.Answers.{done}
-use Rattle.model.specs.Append.{Replica, Request, update, commits, decides, saves, writesGiven, claimGiven}
+use Rattle.model.specs.Append.{Replica, Request, update, commits, decides, saves, writesGiven, conditionGiven}
 use Rattle.model.specs.Replica.{Left, plainly}
 use Rattle.model.specs.Histories.{Lent, inLog, Carried}
 
 -- ---- the log
 
 -- the lent bytes are whole slots, not too many, and the tail is not above them
-pub record Framed (sh : Shape) (l : Lent) : Type 0 where
+pub record GoodFrame (sh : Shape) (l : Lent) : Type 0 where
   pub slots : ℕ
   pub whole : length (l .bytes) ≡ sh .layout .slotSize * slots
   pub few : slots ≤ mostSlots
@@ -42,7 +42,7 @@ pub record SetAside (log : Log) (n p : ℕ) (w : Write) : Type 0 where
 
 -- number n has a commit record below p
 abbrev pub Committed : Log → ℕ → ℕ → Type 0
-Committed log n p = (q : ℕ) × (c : Claim) × (q < p) × (log .entry q ≡ commit n c)
+Committed log n p = (q : ℕ) × (c : Condition) × (q < p) × (log .entry q ≡ commit n c)
 
 -- a decision record below p names the commit record at q
 abbrev pub Decided : Log → ℕ → ℕ → Type 0
@@ -51,7 +51,7 @@ Decided log q p = (d : ℕ) × (r : Decision) × (d < p) × (log .entry d ≡ de
 -- ---- commit records
 
 -- some cell that was read has another version than the read's
-abbrev pub Stale : Holds → Claim → Type 0
+abbrev pub Stale : Holds → Condition → Type 0
 Stale cells c = (x : Read) × List·Memᴰ x (c .reads) × (versionIn (cells x.object x.key) ≡ x .version → ⊥)
 
 -- the commit record of number n at p is of one of the set's objects: an update of its number writes it
@@ -62,10 +62,10 @@ Concerns log set n p = (w : Write) × SetAside log n p w × (mem w.object set �
 -- tail names
 pub record Blocked (log : Log) (set : List ℕ) (q : ℕ) : Type 0 where
   pub number : ℕ
-  pub claim : Claim
-  pub here : log .entry q ≡ commit number claim
+  pub condition : Condition
+  pub here : log .entry q ≡ commit number condition
   pub concerns : Concerns log set number q
-  pub outside : (x : Read) × List·Memᴰ x (claim .reads) × (mem x.object set ≡ false)
+  pub outside : (x : Read) × List·Memᴰ x (condition .reads) × (mem x.object set ≡ false)
   pub undecided : Decided log q (log .tail) → ⊥
 
 -- ---- plays
@@ -79,7 +79,7 @@ pub record Fit (tail : ℕ) (r : Carried) (stop : ℕ) : Type 0 where
 
 -- nothing refuses the play
 pub record Playable (sh : Shape) (l : Lent) (r : Carried) (stop : ℕ) : Type 0 where
-  pub framed : Framed sh l
+  pub framed : GoodFrame sh l
   pub good : AllGood sh (inLog sh l)
   pub fit : Fit (l .tail) r stop
 
@@ -91,7 +91,7 @@ pub data Ended (stop : ℕ) (out : Left) : Type 0 where
 
 -- the writes that an entry makes where it is played: a plain update its own, a commit record those of its number
 abbrev pub Makes : Log → ℕ → List Write → Type 0
-Makes log p ws = (log .entry p ≡ plain ws) ⊎ ((n : ℕ) × (c : Claim) × (log .entry p ≡ commit n c) × (ws ≡ writesOf log n p))
+Makes log p ws = (log .entry p ≡ plain ws) ⊎ ((n : ℕ) × (c : Condition) × (log .entry p ≡ commit n c) × (ws ≡ writesOf log n p))
 
 -- ---- appends
 
@@ -123,18 +123,18 @@ Ascend (r ∷ []) = Unit {0}
 Ascend (r ∷ s ∷ rs) = ((r .object < s .object) ⊎ ((r .object ≡ s .object) × (r .key < s .key))) × Ascend (s ∷ rs)
 
 pub record CommitAllowed (sh : Shape) (log : Log) (n : ℕ) (items : List ℕ) : Type 0 where
-  pub whole : length items ≡ itemSize * length (claimGiven items .reads)
+  pub whole : length items ≡ itemSize * length (conditionGiven items .reads)
   pub number : (1 ≤ n) × (n < 2 ^ 32)
-  pub few : length (claimGiven items .reads) ≤ sh .layout .items
-  pub each : (x : Read) → List·Memᴰ x (claimGiven items .reads) → (isCell sh x.object x.key ≡ true) × (x .version ≤ log .tail)
-  pub ascend : Ascend (claimGiven items .reads)
+  pub few : length (conditionGiven items .reads) ≤ sh .layout .items
+  pub each : (x : Read) → List·Memᴰ x (conditionGiven items .reads) → (isCell sh x.object x.key ≡ true) × (x .version ≤ log .tail)
+  pub ascend : Ascend (conditionGiven items .reads)
   pub uncommitted : Committed log n (log .tail) → ⊥
   pub updated : (w : Write) × SetAside log n (log .tail) w
 
 pub record DecisionAllowed (log : Log) (o v : ℕ) : Type 0 where
   pub below : o < log .tail
   pub outcome : (v ≡ 1) ⊎ (v ≡ 2)
-  pub commits : (n : ℕ) × (c : Claim) × (log .entry o ≡ commit n c)
+  pub commits : (n : ℕ) × (c : Condition) × (log .entry o ≡ commit n c)
   pub undecided : Decided log o (log .tail) → ⊥
 
 -- a checkpoint's cell: of a listed key, with a version from 1 to the tail; the value fits its field
@@ -161,7 +161,7 @@ Allowed sh log (saves r table o) = CheckpointAllowed sh log r table o
 
 -- no refusal's condition stops the append (13.3)
 pub record Unstopped (sh : Shape) (l : Lent) (q : Request) : Type 0 where
-  pub framed : Framed sh l
+  pub framed : GoodFrame sh l
   pub good : AllGood sh (inLog sh l)
   pub free : sh .layout .slotSize * (l .tail + 1) ≤ length (l .bytes)
   pub allowed : Allowed sh (inLog sh l) q

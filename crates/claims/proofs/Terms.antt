@@ -19,13 +19,13 @@ use Rattle.model.specs.Entries.{Decision, Write, Entry, plain, numbered, commit
 use Rattle.model.specs.Slot.{logIn, mostSlots, okShape}
 use Rattle.model.specs.Answers.{slots, badFrame}
 use Rattle.model.specs.Histories.{Lent, inLog}
-use Rattle.model.specs.Conditions.{Framed, SetAside, Committed, Decided, Concerns}
+use Rattle.model.specs.Terms.{GoodFrame, SetAside, Committed, Decided, Concerns}
 use Rattle.laws.proofs.Sizes.{layout}
 use Rattle.laws.proofs.Refusals.{not-none}
 
 -- ---- the frame
 
-pub frame-words : (sh : Shape) (l : Lent) → badFrame sh.layout (inLog sh l) ≡ false → Framed sh l
+pub frame-words : (sh : Shape) (l : Lent) → badFrame sh.layout (inLog sh l) ≡ false → GoodFrame sh l
 unfolding badFrame logIn
 frame-words sh l e =
     let w : not (eqb (length (l .bytes) % sh .layout .slotSize) 0) ≡ false = search ors in
@@ -39,7 +39,7 @@ frame-words sh l e =
       used = ltb-false (length (l .bytes) / sh .layout .slotSize) (l .tail) b;
     }
 
-pub words-frame : (sh : Shape) → okShape sh ≡ true → (l : Lent) → Framed sh l → badFrame sh.layout (inLog sh l) ≡ false
+pub words-frame : (sh : Shape) → okShape sh ≡ true → (l : Lent) → GoodFrame sh l → badFrame sh.layout (inLog sh l) ≡ false
 unfolding badFrame logIn
 words-frame sh shape l f =
     let some : 1 ≤ sh .layout .slotSize = omega (arith, layout sh shape .room) in
