@@ -1,15 +1,15 @@
--- Sets of objects over any directory: the objects of a set ascend and are listed, there are as many as the set has bits, and an or of
--- two sets is their union. By induction over the directory, a bit for each object.
-use Prim.Native.Nat.{ℕ, zero, suc, _+_, _/_, _%_, _≤_, _<_}
+-- Sets of objects over any directory: the objects of a set ascend and are listed, there are as many as the set has bits, an or of
+-- two sets is their union, and the lowest bit is the first of them. By induction over the directory, a bit for each object.
+use Prim.Native.Nat.{ℕ, zero, suc, _+_, _-_, _*_, _/_, _%_, _≤_, _<_, min}
 use mathlib.Core.Path.{_≡_, refl, ap, ap₂, sym, _∙_}
 use mathlib.Core.Bool.{Bool, true, false, cond, _||_}
 use mathlib.Core.List.{List, [], _∷_, _++_}
 use native.Mathlib.Omega.{arith}
 use borrow.Author.Tests.{eqb-true, eqb-false, eq-eqb, ne-eqb, ltb-true, lt-ltb}
-use lib.Bits.{bitOr, or-shr, or-mod}
-use lib.Count.{ones, onesIn, ones-step}
+use lib.Bits.{bitAnd, bitOr, and-step, and-self, or-shr, or-mod}
+use lib.Count.{ones, onesIn, ones-step, trailingZeros, under}
 use lib.Dec.{eqb, ltb}
-use lib.ListN.{length}
+use lib.ListN.{length, getD}
 use Rattle.lists.specs.Tests.{clash}
 use Rattle.lists.specs.Sets.{mem, isEmpty, ascending, leads, ascends, rest-ascends, first-leads, ascendingSet, ascending-set, mem-append, mem-set, set-same-members}
 use Rattle.model.specs.Objects.{Object, hostedBy, everyBit}
@@ -130,3 +130,59 @@ hosted-or bs a b asc =
     let u : List ℕ = hostedBy bs a ++ hostedBy bs b in
     set-same-members (hostedBy bs (bitOr a b)) (ascendingSet u) (hosted-ascends bs (bitOr a b) asc) (ascending-set u)
     (λ x. mem-or x bs a b ∙ sym (mem-append x (hostedBy bs a) (hostedBy bs b)) ∙ sym (mem-set x u))
+
+-- ---- the first object of a set, and the others: the number one less has the same bits but for the lowest that is set and those below it
+
+others-odd : (n : ℕ) → n % 2 ≡ 1 → bitAnd n (n - 1) ≡ n / 2 * 2
+others-odd n o =
+    let half : (n - 1) / 2 ≡ n / 2 = omega arith in
+    let bit : (n - 1) % 2 ≡ 0 = omega arith in
+    and-step n (n - 1) ∙ ap₂ (λ (x y : ℕ). bitAnd (n / 2) x * 2 + min y ((n - 1) % 2)) half o
+    ∙ ap₂ (λ (x y : ℕ). x * 2 + min 1 y) (and-self (n / 2)) bit ∙ omega arith
+
+others-even : (n : ℕ) → 1 ≤ n → n % 2 ≡ 0 → bitAnd n (n - 1) ≡ bitAnd (n / 2) (n / 2 - 1) * 2
+others-even n s o =
+    let half : (n - 1) / 2 ≡ n / 2 - 1 = omega arith in
+    let bit : (n - 1) % 2 ≡ 1 = omega arith in
+    and-step n (n - 1) ∙ ap₂ (λ (x y : ℕ). bitAnd (n / 2) x * 2 + min y ((n - 1) % 2)) half o
+    ∙ ap (λ (y : ℕ). bitAnd (n / 2) (n / 2 - 1) * 2 + min 0 y) bit ∙ omega arith
+
+-- the objects of an even number are those of its half
+hosted-double : (b : Object) (bs : List Object) (set half : ℕ) → set ≡ half * 2 → hostedBy (b ∷ bs) set ≡ hostedBy bs half
+hosted-double b bs set half e =
+    let bit : set % 2 ≡ 0 = omega arith in
+    let rest : set / 2 ≡ half = omega arith in
+    ap₂ (λ (x y : ℕ). cond (eqb x 1) (b .id ∷ hostedBy bs y) (hostedBy bs y)) bit rest
+
+-- a word of w bits has a bit for each object
+pub hosted-lowest : (w : ℕ) (bs : List Object) (set : ℕ) → length bs ≤ w → 1 ≤ set → set ≤ everyBit bs
+    → hostedBy bs set ≡ getD (idsOf bs) (trailingZeros w set) 0 ∷ hostedBy bs (bitAnd set (set - 1))
+unfolding trailingZeros
+hosted-lowest w [] set h s l = absurd (omega arith)
+hosted-lowest zero (b ∷ bs) set h s l = absurd (omega arith)
+hosted-lowest (suc w) (b ∷ bs) set h s l = go (eqb (set % 2) 1) refl (λ i. hosted-lowest w bs (set / 2) (omega arith) i (omega arith))
+  where
+    go : (t : Bool) → eqb (set % 2) 1 ≡ t
+        → (1 ≤ set / 2 → hostedBy bs (set / 2) ≡ getD (idsOf bs) (trailingZeros w (set / 2)) 0 ∷ hostedBy bs (bitAnd (set / 2) (set / 2 - 1)))
+        → cond t (b .id ∷ hostedBy bs (set / 2)) (hostedBy bs (set / 2))
+        ≡ getD (idsOf (b ∷ bs)) (under (set % 2) (trailingZeros w (set / 2))) 0 ∷ hostedBy (b ∷ bs) (bitAnd set (set - 1))
+    go true e ih =
+        let o = bit-cases set .0 e in
+        ap₂ (λ (x : ℕ) (r : List ℕ). getD (idsOf (b ∷ bs)) (under x (trailingZeros w (set / 2))) 0 ∷ r) (sym o)
+        (sym (hosted-double b bs (bitAnd set (set - 1)) (set / 2) (others-odd set o)))
+    go false e ih =
+        let o = bit-cases set .1 e in
+        ih (omega arith)
+        ∙ ap₂ (λ (x : ℕ) (r : List ℕ). getD (idsOf (b ∷ bs)) (under x (trailingZeros w (set / 2))) 0 ∷ r) (sym o)
+        (sym (hosted-double b bs (bitAnd set (set - 1)) (bitAnd (set / 2) (set / 2 - 1)) (others-even set s o)))
+
+-- its bit is that of an object
+pub lowest-below : (w : ℕ) (bs : List Object) (set : ℕ) → length bs ≤ w → 1 ≤ set → set ≤ everyBit bs → trailingZeros w set < length bs
+unfolding trailingZeros
+lowest-below w [] set h s l = absurd (omega arith)
+lowest-below zero (b ∷ bs) set h s l = absurd (omega arith)
+lowest-below (suc w) (b ∷ bs) set h s l = go (set % 2) refl (λ i. lowest-below w bs (set / 2) (omega arith) i (omega arith))
+  where
+    go : (r : ℕ) → set % 2 ≡ r → (1 ≤ set / 2 → trailingZeros w (set / 2) < length bs) → under r (trailingZeros w (set / 2)) < suc (length bs)
+    go zero e ih = let i = ih (omega arith) in omega arith
+    go (suc r) e ih = omega arith

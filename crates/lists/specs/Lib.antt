@@ -4,6 +4,7 @@ pub mod Bytes
 pub mod Rows
 pub mod Sets
 pub mod First
+pub mod Highest
 pub mod Every
 pub mod Ascend
 pub mod Picks

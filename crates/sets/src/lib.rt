@@ -5,6 +5,7 @@ ghost use Prim.Native.Nat.{_≤_};
 ghost use lib.ListN.{length};
 ghost use Rattle.lists.specs.Sets.{ascendingSet};
 ghost use Rattle.model.specs.Objects.{depots, hosted};
+ghost use Rattle.sets.specs.Lowest.{Lowest};
 use codec::names::ObjectId;
 
 // The set of one object.
@@ -26,4 +27,12 @@ pub fn size(set: u8) -> u32
     ensures { λ r. ⌜ r ≡ length (hosted depots set) ⌝ }
 {
     u8::count_ones(set)
+}
+
+// The place in the directory of the first object of a set. The others are the set `set & (set - 1)`.
+pub fn lowest(set: u8) -> usize
+    requires { ⌜ 1 ≤ set ⌝ }
+    ensures { λ r. ⌜ Lowest set r ⌝ }
+{
+    u8::trailing_zeros(set) as usize
 }

@@ -1,0 +1,5 @@
+pub mod Digits
+pub mod Tree
+pub mod Search
+pub mod Growth
+pub mod Put
