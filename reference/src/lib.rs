@@ -15,6 +15,7 @@ pub mod cases;
 pub mod earlier;
 pub mod examples;
 pub mod forms;
+pub mod hash;
 pub mod log;
 pub mod objects;
 pub mod playing;

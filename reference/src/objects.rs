@@ -77,5 +77,10 @@ pub fn has(set: u8, id: u32) -> bool {
 
 /// The ids of a set, ascending.
 pub fn ids(set: u8) -> impl Iterator<Item = u32> {
-    (1..=8).filter(move |&id| has(set, id))
+    let mut rest = set;
+    std::iter::from_fn(move || {
+        let lowest = rest.trailing_zeros();
+        rest &= rest.wrapping_sub(1);
+        (lowest < 8).then_some(lowest + 1)
+    })
 }

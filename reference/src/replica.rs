@@ -140,6 +140,8 @@ pub struct Player<'a> {
     pub table: &'a mut [u8],
     pub count: usize,
     pub index: Index,
+    /// Room for the updates of one commit record.
+    updates: Vec<usize>,
 }
 
 impl<'a> Player<'a> {
@@ -159,15 +161,16 @@ impl<'a> Player<'a> {
             table,
             count,
             index,
+            updates: Vec::new(),
         }
     }
 
     /// Plays the entry at an offset; one without a hosted header object is passed over (9.3).
     pub fn step(&mut self, at: usize) -> Step {
-        let slot = slot_at(self.log, at);
-        if slot.objects() & self.hosted == 0 {
+        if self.earlier.objects(at) & self.hosted == 0 {
             return Step::Passed;
         }
+        let slot = slot_at(self.log, at);
         match slot.kind() {
             // a plain update (9.4)
             Some(Kind::Update) if slot.number() == 0 => self.apply(&[at], at, Step::Passed),
@@ -183,8 +186,11 @@ impl<'a> Player<'a> {
             Some(false) => Step::Aborts,
             // all updates of the number, with the commit record's version (9.6)
             Some(true) => {
-                let updates = self.earlier.updates(commit.number());
-                self.apply(&updates, at, Step::Commits)
+                let mut updates = std::mem::take(&mut self.updates);
+                self.earlier.updates(at, &mut updates);
+                let step = self.apply(&updates, at, Step::Commits);
+                self.updates = updates;
+                step
             }
         }
     }
@@ -194,9 +200,7 @@ impl<'a> Player<'a> {
         if commit.reads().all(|read| has(self.hosted, read.object)) {
             return Some(self.reads_current(commit));
         }
-        self.earlier
-            .decision(at)
-            .map(|decided| decided.outcome == COMMIT)
+        self.earlier.decision(at).map(|outcome| outcome == COMMIT)
     }
 
     /// Whether no read is stale (9.7).
@@ -214,50 +218,61 @@ impl<'a> Player<'a> {
 
     /// Applies the hosted writes of these updates with the version of `at`, all of them or none for want of room.
     fn apply(&mut self, updates: &[usize], at: usize, done: Step) -> Step {
-        if !self.find_room(updates) {
+        if !self.has_room(updates) {
             return Step::LacksRoom;
         }
         let version = version_at(at);
-        for write in self.hosted_writes(updates) {
-            if let Some(place) = self.index.find(write.object, write.key) {
-                let value = (write.operation == PUT).then_some(write.value);
-                let row = Row::of(write.object, write.key, value, version);
-                put_row(self.table, place, row);
-                self.count = self.count.max(place + 1);
+        for &update in updates {
+            for write in slot_at(self.log, update).writes() {
+                if has(self.hosted, write.object) {
+                    self.write(write, version);
+                }
             }
         }
         done
     }
 
-    /// Gives the new cells of these updates rows after the counted ones, in order, if there are enough (7.10, 9.9).
-    fn find_room(&mut self, updates: &[usize]) -> bool {
-        let free = capacity(self.table) - self.count;
-        let mut fresh = Vec::new();
-        for write in self.hosted_writes(updates) {
-            if self.index.find(write.object, write.key).is_none() {
-                self.index
-                    .add(write.object, write.key, self.count + fresh.len());
-                fresh.push(write);
-            }
-        }
-        if fresh.len() > free {
-            for write in fresh {
-                self.index.forget(write.object, write.key);
-            }
-            return false;
-        }
-        true
+    /// One write (7.10); where its cell has no row, there is room for one.
+    fn write(&mut self, write: Write, version: u64) {
+        let place = match self.index.find(write.object, write.key) {
+            Some(place) => place,
+            None => self.add(write.object, write.key),
+        };
+        let value = (write.operation == PUT).then_some(write.value);
+        let row = Row::of(write.object, write.key, value, version);
+        put_row(self.table, place, row);
     }
 
-    fn hosted_writes<'b>(&self, updates: &'b [usize]) -> impl Iterator<Item = Write> + 'b
-    where
-        'a: 'b,
-    {
-        let (log, hosted) = (self.log, self.hosted);
-        updates
+    /// A new row, after the counted ones.
+    fn add(&mut self, object: u32, key: u32) -> usize {
+        let place = self.count;
+        self.index.add(object, key, place);
+        self.count += 1;
+        place
+    }
+
+    /// Whether the table has rows for the new cells (9.9). They are counted only where the writes are more than the free rows.
+    fn has_room(&self, updates: &[usize]) -> bool {
+        let free = capacity(self.table) - self.count;
+        let writes: usize = updates
             .iter()
-            .flat_map(move |&update| slot_at(log, update).writes())
-            .filter(move |write| has(hosted, write.object))
+            .map(|&update| slot_at(self.log, update).item_count())
+            .sum();
+        writes <= free || self.new_cells(updates) <= free
+    }
+
+    /// How many hosted cells these updates write that have no row; one that is written more than once counts once.
+    fn new_cells(&self, updates: &[usize]) -> usize {
+        let mut cells: Vec<(u32, u32)> = updates
+            .iter()
+            .flat_map(|&update| slot_at(self.log, update).writes())
+            .filter(|write| has(self.hosted, write.object))
+            .map(|write| (write.object, write.key))
+            .filter(|&(object, key)| self.index.find(object, key).is_none())
+            .collect();
+        cells.sort_unstable();
+        cells.dedup();
+        cells.len()
     }
 }
 

@@ -5,10 +5,11 @@ use reference::boundary::{self, Said};
 use reference::objects::OBJECTS;
 use reference::replica::Record;
 use reference::sample::{put, write_bytes};
+use reference::slot::SLOT;
 use reference::table::CELL;
 
 use crate::library::{stocklog_append_update, stocklog_audit, stocklog_check, stocklog_play};
-use crate::workload::workload;
+use crate::workload::Made;
 
 pub const CALLS: [&str; 4] = ["check", "append", "play", "audit"];
 
@@ -62,29 +63,30 @@ struct Lent {
     log: Vec<u8>,
     tail: usize,
     table: Vec<u8>,
+    number: u32,
     items: Vec<u8>,
 }
 
-/// Nanoseconds of one call, the least of some, and its answer in words. A line is printed when the log is made.
-pub fn measured(call: &str, size: usize, side: Side, seed: u64, stride: u32) -> (f64, String) {
+/// Nanoseconds of one call, the least of those made in so many nanoseconds or of three, and its answer in words.
+pub fn measured(call: &str, made: Made, side: Side, time: f64) -> (f64, String) {
     let cells: usize = OBJECTS
         .iter()
         .map(|object| object.highest_key as usize + 1)
         .sum();
     let mut lent = Lent {
-        log: workload(size, seed, stride),
-        tail: size,
+        tail: made.log.len() / SLOT,
+        log: made.log,
         table: vec![0; cells * CELL],
+        number: made.number,
         items: write_bytes(&[put(2, 7, 43), put(5, 77, 1)]),
     };
-    println!("made");
     let mut least = f64::MAX;
     let mut whole = 0.0;
     let mut said = None;
     let mut calls = 0;
-    while calls < 3 || whole < 5e8 && calls < 2_000 {
+    while calls < 3 || whole < time && calls < 2_000 {
         let start = now();
-        said = Some(made(call, side, &mut lent));
+        said = Some(call_made(call, side, &mut lent));
         let took = now() - start;
         least = least.min(took);
         whole += took;
@@ -117,7 +119,7 @@ const FRESH: Record = Record {
     count: 0,
 };
 
-fn made(call: &str, side: Side, lent: &mut Lent) -> Said {
+fn call_made(call: &str, side: Side, lent: &mut Lent) -> Said {
     match side {
         Side::Reference => by_reference(call, lent),
         Side::Library => by_library(call, lent),
@@ -131,7 +133,7 @@ fn by_reference(call: &str, lent: &mut Lent) -> Said {
         "check" => boundary::check(&lent.log, tail),
         "append" => {
             let request = Request::Update {
-                number: 0,
+                number: lent.number,
                 items: lent.items.clone(),
             };
             boundary::append(&mut lent.log, tail - 1, &request)
@@ -153,7 +155,7 @@ fn by_library(call: &str, lent: &mut Lent) -> Said {
             "check" => stocklog_check(log, log_len, tail, to),
             "append" => {
                 let (items, items_len) = (lent.items.as_ptr(), lent.items.len());
-                stocklog_append_update(log, log_len, tail - 1, 0, items, items_len, to)
+                stocklog_append_update(log, log_len, tail - 1, lent.number, items, items_len, to)
             }
             "play" => stocklog_play(
                 log,

@@ -22,6 +22,14 @@ struct Open {
     updates_left: u64,
 }
 
+/// A log to measure calls on.
+pub struct Made {
+    /// All of its slots are used.
+    pub log: Vec<u8>,
+    /// The number of the update with which the append is measured.
+    pub number: u32,
+}
+
 /// A growing log.
 struct Depots {
     random: Random,
@@ -33,8 +41,8 @@ struct Depots {
     owed: VecDeque<u64>,
 }
 
-/// A log of so many slots, all used. Transaction numbers are the multiples of the stride.
-pub fn workload(slots: usize, seed: u64, stride: u32) -> Vec<u8> {
+/// A log of so many slots. Transaction numbers are the multiples of the stride; the append has one that is new.
+pub fn workload(slots: usize, seed: u64, stride: u32) -> Made {
     let mut depots = Depots {
         random: Random::new(seed),
         stride,
@@ -50,7 +58,10 @@ pub fn workload(slots: usize, seed: u64, stride: u32) -> Vec<u8> {
         assert!(answer.is_done(), "{request:?} is refused: {answer:?}");
         depots.run.feed(&request, false);
     }
-    depots.writer.log
+    Made {
+        log: depots.writer.log,
+        number: depots.last_number + stride,
+    }
 }
 
 impl Depots {

@@ -1,0 +1,224 @@
+//! Logs that are made to be slow, each beside one of the same kind that is not: transaction numbers that share a place in some
+//! table, checkpoints of objects with many keys, entries full of writes.
+
+use reference::append::{Request, Writer};
+use reference::objects::set_of;
+use reference::replica::Record;
+use reference::sample::{commit, put, table_of, update};
+use reference::slot::{Write, MOST_ITEMS};
+use reference::table::Row;
+
+use crate::workload::Made;
+
+/// A log of so many slots, all used.
+type Maker = fn(usize) -> Made;
+
+/// A log, by its name; one that is made to be slow has another that it is measured beside.
+pub struct Log {
+    pub name: &'static str,
+    pub beside: Option<&'static str>,
+    maker: Maker,
+}
+
+const fn plain(name: &'static str, maker: Maker) -> Log {
+    Log {
+        name,
+        beside: None,
+        maker,
+    }
+}
+
+const fn slow(name: &'static str, beside: &'static str, maker: Maker) -> Log {
+    Log {
+        name,
+        beside: Some(beside),
+        maker,
+    }
+}
+
+const IN_ORDER: &str = "numbers 1, 2, 3, ..";
+const FEW: &str = "numbers 1 to 32";
+const REGISTER: &str = "checkpoints of object 8";
+const CELLS: &str = "12 writes of 12 cells in each update";
+
+/// Numbers of transactions go up to 2^32 - 1, which leaves 65,536 of each remainder by 65,536: as many as the longest log needs.
+pub const LOGS: [Log; 19] = [
+    plain(IN_ORDER, |size| transactions(size, |i, _| i + 1)),
+    plain(FEW, |size| in_turn(size, |i| i + 1)),
+    plain(REGISTER, |size| checkpoints(size, 8, 0)),
+    plain(CELLS, |size| {
+        writes(size, |entry, place| {
+            (MOST_ITEMS as u32 * entry + place) % 500
+        })
+    }),
+    slow("numbers equal modulo 65,521", IN_ORDER, |size| {
+        transactions(size, |i, _| 65_521 * i + 1)
+    }),
+    slow("numbers equal modulo 65,536", IN_ORDER, |size| {
+        transactions(size, |i, _| 65_536 * i + 1)
+    }),
+    slow("numbers equal modulo 32,768", IN_ORDER, |size| {
+        transactions(size, |i, _| 32_768 * i + 1)
+    }),
+    slow("numbers equal modulo 16,384", IN_ORDER, |size| {
+        transactions(size, |i, _| 16_384 * i + 1)
+    }),
+    slow("numbers equal modulo 1,024", IN_ORDER, |size| {
+        transactions(size, |i, _| 1_024 * i + 1)
+    }),
+    slow("multiples of 65,536 less 1", IN_ORDER, |size| {
+        transactions(size, |i, _| 65_535 + 65_536 * i)
+    }),
+    slow("numbers descending", IN_ORDER, |size| {
+        transactions(size, |i, count| count - i)
+    }),
+    slow("numbers descending from 2^32 - 1", IN_ORDER, |size| {
+        transactions(size, |i, _| u32::MAX - i)
+    }),
+    slow("32 bits of 1, 2, 3, .. reversed", IN_ORDER, |size| {
+        transactions(size, |i, _| (i + 1).reverse_bits())
+    }),
+    slow("random numbers", IN_ORDER, |size| {
+        transactions(size, |i, _| mixed(i + 1))
+    }),
+    slow("powers of two less 1", FEW, |size| {
+        in_turn(size, |i| u32::MAX >> (31 - i))
+    }),
+    slow("one transaction, committed at the end", IN_ORDER, one),
+    slow("checkpoints of object 1", REGISTER, |size| {
+        checkpoints(size, 1, 9_999)
+    }),
+    slow("checkpoints of object 5", REGISTER, |size| {
+        checkpoints(size, 5, 9_999)
+    }),
+    slow("12 writes of one cell in each update", CELLS, |size| {
+        writes(size, |_, _| 7)
+    }),
+];
+
+/// The log of a name.
+pub fn log(name: &str, size: usize) -> Option<Made> {
+    let found = LOGS.iter().find(|log| log.name == name)?;
+    Some((found.maker)(size))
+}
+
+/// A log that grows until it is full.
+struct Growing {
+    writer: Writer,
+    /// The number of the last entry.
+    number: u32,
+}
+
+impl Growing {
+    fn new(size: usize) -> Growing {
+        Growing {
+            writer: Writer::new(size),
+            number: 0,
+        }
+    }
+
+    fn append(&mut self, number: u32, request: &Request) {
+        let answer = self.writer.append(request);
+        assert!(answer.is_done(), "{request:?} is refused: {answer:?}");
+        self.number = number;
+    }
+
+    /// The append that is measured is of an update in place of the last entry, with its number.
+    fn made(self) -> Made {
+        Made {
+            log: self.writer.log,
+            number: self.number,
+        }
+    }
+}
+
+/// Entries write different orders.
+fn write(entry: u32) -> Write {
+    put(5, entry % 10_000, entry)
+}
+
+/// In its first half an update of each transaction, in the second their commit records in the same order. The numbers come from
+/// the transaction's place, and from how many there are.
+fn transactions(size: usize, number: fn(u32, u32) -> u32) -> Made {
+    let mut log = Growing::new(size);
+    let commits = (size / 2) as u32;
+    let updates = size as u32 - commits;
+    for place in 0..updates {
+        let number = number(place, updates);
+        log.append(number, &update(number, &[write(place)]));
+    }
+    for place in 0..commits {
+        let number = number(place, updates);
+        log.append(number, &commit(number, &[]));
+    }
+    log.made()
+}
+
+/// Updates of 32 transactions in turn, then their commit records.
+fn in_turn(size: usize, number: fn(u32) -> u32) -> Made {
+    let mut log = Growing::new(size);
+    let commits = 32.min(size / 2) as u32;
+    for place in 0..size as u32 - commits {
+        let number = number(place % 32);
+        log.append(number, &update(number, &[write(place)]));
+    }
+    for place in 0..commits {
+        let number = number(place);
+        log.append(number, &commit(number, &[]));
+    }
+    log.made()
+}
+
+fn one(size: usize) -> Made {
+    let mut log = Growing::new(size);
+    for place in 1..size as u32 {
+        log.append(1, &update(1, &[write(place)]));
+    }
+    // A log of one entry has no room for the commit record and an update.
+    match size {
+        1 => log.append(1, &update(1, &[write(0)])),
+        _ => log.append(1, &commit(1, &[])),
+    }
+    log.made()
+}
+
+/// A plain update of one cell, then checkpoints with that cell.
+fn checkpoints(size: usize, object: u32, key: u32) -> Made {
+    let mut log = Growing::new(size);
+    log.append(0, &update(0, &[put(object, key, 1)]));
+    let table = table_of(&[Row::of(object, key, Some(1), 1)]);
+    for position in 1..size as u64 {
+        let record = Record {
+            hosted: set_of(object),
+            position,
+            count: 1,
+        };
+        let request = Request::Checkpoint {
+            record,
+            table: table.clone(),
+            object,
+        };
+        log.append(0, &request);
+    }
+    log.made()
+}
+
+/// Plain updates of 12 writes to object 2; the key comes from the entry and the write's place in it.
+fn writes(size: usize, key: fn(u32, u32) -> u32) -> Made {
+    let mut log = Growing::new(size);
+    for entry in 0..size as u32 {
+        let writes: Vec<Write> = (0..MOST_ITEMS as u32)
+            .map(|place| put(2, key(entry, place), entry))
+            .collect();
+        log.append(0, &update(0, &writes));
+    }
+    log.made()
+}
+
+/// Each step can be undone, so different numbers stay different, and only 0 gives 0.
+fn mixed(number: u32) -> u32 {
+    let mut x = number;
+    x = (x ^ x >> 16).wrapping_mul(0x85EB_CA6B);
+    x = (x ^ x >> 13).wrapping_mul(0xC2B2_AE35);
+    x ^ x >> 16
+}
