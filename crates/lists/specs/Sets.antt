@@ -190,6 +190,10 @@ lead-out x (y ∷ l) h a =
     neither (ne-eqb y x (λ e. omega (arith, ltb-true x y h)))
     (lead-out x l (before-all x y l h (first-leads ltb y l a)) (rest-ascends ltb y l a))
 
+-- the first of an ascending list is not one of the others
+pub first-once : (x : ℕ) (l : List ℕ) → ascending ltb (x ∷ l) ≡ true → mem x l ≡ false
+first-once x l a = lead-out x l (first-leads ltb x l a) (rest-ascends ltb x l a)
+
 first-in : (x : ℕ) (l : List ℕ) → mem x (x ∷ l) ≡ true
 first-in x l = rw (eq-eqb x x refl)
 
@@ -212,8 +216,8 @@ set-same-members (x ∷ l) (y ∷ m) a b h =
     rest : x ≡ y → (z : ℕ) (c : Bool) → eqb x z ≡ c → mem z l ≡ mem z m
     rest e z true q =
         let f = eqb-true x z q in
-        ap (λ (k : ℕ). mem k l) (sym f) ∙ lead-out x l (first-leads ltb x l a) (rest-ascends ltb x l a)
-        ∙ sym (lead-out y m (first-leads ltb y m b) (rest-ascends ltb y m b)) ∙ ap (λ (k : ℕ). mem k m) (sym e ∙ f)
+        ap (λ (k : ℕ). mem k l) (sym f) ∙ first-once x l a
+        ∙ sym (first-once y m b) ∙ ap (λ (k : ℕ). mem k m) (sym e ∙ f)
     rest e z false q = sym (past x z l q) ∙ h z ∙ past y z m (ap (λ (k : ℕ). eqb k z) (sym e) ∙ q)
 
     go : (c d : Bool) → ltb x y ≡ c → eqb x y ≡ d → (((z : ℕ) → mem z l ≡ mem z m) → l ≡ m) → x ∷ l ≡ y ∷ m
