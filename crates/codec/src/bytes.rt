@@ -1,7 +1,7 @@
 // Integers stored most significant byte first, copies and fills. Loads read `beAt`, stores are splices of `bytesOf`.
 ghost use mathlib.Core.Path.{_≡_};
 ghost use Prim.Native.Nat.{_+_, _-_, _≤_, _<_};
-ghost use lib.ListN.{length, getD, replicate};
+ghost use lib.ListN.{length, getD, drop, replicate};
 ghost use Rattle.lists.specs.Equal.{eqList};
 ghost use Rattle.lists.specs.Bytes.{beAt, bytesOf};
 ghost use Rattle.lists.specs.Splice.{splice};
@@ -126,6 +126,21 @@ pub fn same(a: &[u8], b: &[u8]) -> bool
         let e = a[i] == b[i];
         ok = ok & e;
         i += 1;
+    }
+    ok
+}
+
+// From place i on there are zeros only. All are looked at, as in `same`.
+pub fn zeros(s: &[u8], i: usize) -> bool
+    requires { ⌜ i ≤ length (now s) ⌝ }
+    ensures { λ r. ⌜ r ≡ eqList (drop i (now (s .entry))) (replicate (length (now (s .entry)) - i) 0) ⌝ }
+{
+    let mut ok = true;
+    let mut k = i;
+    while k < s.len() {
+        let e = s[k] == 0;
+        ok = ok & e;
+        k += 1;
     }
     ok
 }

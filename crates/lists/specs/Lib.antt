@@ -10,5 +10,6 @@ pub mod Ascend
 pub mod Picks
 pub mod Fold
 pub mod Equal
+pub mod Compare
 pub mod Walk
 pub mod Members
