@@ -25,6 +25,11 @@ pub record Lowest (set k : ℕ) : Type 0 where
   pub first : hosted depots set ≡ getD (ids depots) k 0 ∷ hosted depots (others set)
   pub less : others set < set
 
+-- a list without its first
+abbrev pub afterFirst : List ℕ → List ℕ
+afterFirst [] = []
+afterFirst (x ∷ xs) = xs
+
 id-at : (k : ℕ) → k < 8 → getD (ids depots) k 0 ≡ k + 1
 unfolding first firstFrom
 id-at k l = eqb-true (getD (ids depots) k 0) (k + 1) (every-below (λ k. eqb (getD (ids depots) k 0) (k + 1)) 8 refl k l)
@@ -40,6 +45,9 @@ lowest-of set s l = record {
   where
     place : trailingZeros 8 set < 8
     place = lowest-below 8 theObjects set (omega arith) s (omega arith)
+
+pub others-of : (set : ℕ) → 1 ≤ set → set < 256 → hosted depots (others set) ≡ afterFirst (hosted depots set)
+others-of set s l = ap afterFirst (sym (lowest-of set s l .first))
 
 -- ---- a loop over them
 

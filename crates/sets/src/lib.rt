@@ -5,7 +5,7 @@ ghost use Prim.Native.Nat.{_≤_};
 ghost use lib.ListN.{length};
 ghost use Rattle.lists.specs.Sets.{ascendingSet};
 ghost use Rattle.model.specs.Objects.{depots, hosted};
-ghost use Rattle.sets.specs.Lowest.{Lowest};
+ghost use Rattle.sets.specs.Lowest.{Lowest, afterFirst};
 use codec::names::ObjectId;
 
 // The set of one object.
@@ -35,4 +35,14 @@ pub fn lowest(set: u8) -> usize
     ensures { λ r. ⌜ Lowest set r ⌝ }
 {
     u8::trailing_zeros(set) as usize
+}
+
+// The set without its first object; none is left of none.
+pub fn others(set: u8) -> u8
+    ensures { λ r. ⌜ hosted depots r ≡ afterFirst (hosted depots set) ⌝ }
+{
+    if set == 0 {
+        return 0;
+    }
+    set & (set - 1)
 }
