@@ -102,12 +102,10 @@ enum {
 /*
  * Bytes of stack that are enough for any call, from its entry on, on x86-64. No call recurses, and its arrays have fixed
  * lengths, so its use does not depend on the log. For one call these are enough:
- *   2,750,000  stocklog_audit
- *   2,600,000  stocklog_play
- *   1,250,000  stocklog_append_checkpoint
- *   1,210,000  stocklog_owed
+ *   2,300,000  stocklog_audit
+ *   2,150,000  stocklog_append_checkpoint, stocklog_play
  *       1,000  stocklog_open_fresh, stocklog_read_cell
- *   1,100,000  each other
+ *   1,970,000  each other
  * tools/stack adds up what is used from the archive's machine code (frames along the calls, and 16 KiB for memset and memcpy),
  * and fails where it is more than is stated here, or where a figure here is over 5 % and over 1,000 bytes more.
  */
