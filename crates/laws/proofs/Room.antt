@@ -1,26 +1,21 @@
--- A play never needs more cells than the table has room for, so it leaves the table's length as it was, and a count that fits:
--- each step tests the room before it writes, and a replica whose count is over the capacity is refused.
-use Prim.Native.Nat.{ℕ, zero, suc, _+_, _*_, _-_, _≤_}
+-- A play never needs more cells than the table has room for, since each step tests the room before it writes; and a table stored with
+-- cells that fit is as long as it was.
+use Prim.Native.Nat.{ℕ, zero, suc, _+_, _*_, _≤_}
 use mathlib.Core.Path.{_≡_, refl}
 use mathlib.Core.Bool.{Bool, true, false, cond}
-use mathlib.Core.List.{List, [], _∷_, _++_}
+use mathlib.Core.List.{List}
 use mathlib.Core.Option.{Option, none, some}
 use native.Mathlib.Omega.{arith}
-use borrow.Author.Tests.{leb-true, ltb-false}
+use borrow.Author.Tests.{leb-true}
 use lib.Dec.{leb}
 use lib.ListN.{length, drop, length-append, length-drop}
 use Rattle.lists.specs.Rows.{joined}
 use Rattle.lists.specs.Sets.{meets}
-use Rattle.model.specs.Objects.{Shape, hosted}
+use Rattle.model.specs.Objects.{Shape}
 use Rattle.model.specs.Entries.{Write, Effect, writes, aside, tries, inert, effect, Log, writesOf, headerObjects}
-use Rattle.model.specs.Table.{Cell, cellBytes, cellsOf, tableWith, capacity, apply, cellSize}
+use Rattle.model.specs.Table.{Cell, cellBytes, tableWith, capacity, apply, cellSize}
 use Rattle.model.specs.Play.{Played, going, waits, lacks, cellsIn, versionAt, outcome, make, finish, act, step, andThen, play}
-use Rattle.model.specs.Answers.{Refusal, refuse, frameAndEntries}
-use Rattle.model.specs.Append.{Replica, badReplica}
-use Rattle.model.specs.Replica.{Left, badStop, playRefusal, playFrom, playGiven, playCall}
-use Rattle.lists.specs.Tests.{ors}
-use Rattle.laws.proofs.Refusals.{all-pass, refuse-none}
-use Rattle.laws.proofs.Tables.{length-cells, length-stored}
+use Rattle.laws.proofs.Tables.{length-stored}
 
 module _ (sh : Shape) (log : Log) (set : List ℕ) (room : ℕ) where
   make-fits : (p : ℕ) (ws : List Write) (cs : List Cell) → length cs ≤ room → length (cellsIn (make set room p ws cs)) ≤ room
@@ -62,40 +57,3 @@ module _ (sh : Shape) (log : Log) (set : List ℕ) (room : ℕ) where
 pub length-with : (t : List ℕ) (cs : List Cell) → length cs ≤ capacity t → length (tableWith t cs) ≡ length t
 unfolding tableWith
 length-with t cs h = omega (arith, length-append (joined cellBytes cs) (drop (cellSize * length cs) t), length-stored cs, length-drop (cellSize * length cs) t)
-
--- what a play leaves: a table as long, and, where the count fitted, a count that fits
-pub record Fitting (t : List ℕ) (a : Left) : Type 0 where
-  pub size : length (a .table) ≡ length t
-  pub fits : a .replica .count ≤ capacity t
-
-fitting : (r : Replica) (stop : ℕ) (t : List ℕ) (p : Played) → length (cellsIn p) ≤ capacity t → Fitting t (playGiven r stop t p none)
-fitting r stop t (going cs) h = record { size = length-with t cs h; fits = h }
-fitting r stop t (waits q cs) h = record { size = length-with t cs h; fits = h }
-fitting r stop t (lacks q cs) h = record { size = length-with t cs h; fits = h }
-
-module _ (sh : Shape) (log : Log) (r : Replica) (t : List ℕ) (stop : ℕ) where
-  played : r .count ≤ capacity t → Fitting t (playGiven r stop t (playFrom sh log r t stop) none)
-  played h = fitting r stop t (playFrom sh log r t stop)
-      (play-fits sh log (hosted sh (r .hosting)) (capacity t) (r .position) (cellsOf t (r .count)) (stop - r .position) (omega (arith, length-cells t (r .count))))
-
-  pub play-fitting : r .count ≤ capacity t → Fitting t (playCall sh log r t stop)
-  unfolding playCall
-  play-fitting h = go (playRefusal sh log r t stop)
-    where
-      go : (x : Option Refusal) → Fitting t (playGiven r stop t (playFrom sh log r t stop) x)
-      go none = played h
-      go (some x) = record { size = refl; fits = h }
-
-  -- also where the count does not fit, since the play is then refused
-  pub play-size : length (playCall sh log r t stop .table) ≡ length t
-  unfolding playCall
-  play-size = go (playRefusal sh log r t stop) refl
-    where
-      tests : List (Option Refusal)
-      tests = frameAndEntries sh log ++ (refuse 10 (badReplica (log .tail) r t) ∷ refuse 3 (badStop (log .tail) r stop) ∷ [])
-
-      go : (x : Option Refusal) → playRefusal sh log r t stop ≡ x → length (playGiven r stop t (playFrom sh log r t stop) x .table) ≡ length t
-      go none e =
-          let good : badReplica (log .tail) r t ≡ false = refuse-none 10 (badReplica (log .tail) r t) (all-pass tests e .1 .1 .0) in
-          played (ltb-false (capacity t) (r .count) (search ors)) .size
-      go (some x) e = refl

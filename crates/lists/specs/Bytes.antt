@@ -10,7 +10,6 @@ use lib.Seq.{getD-append-add, length-take-le, getD-take, getD-drop, ext-getD}
 use native.Mathlib.Numerals.{one-add}
 use lib.Dec.{lit<}
 use lib.Arith.{mod-mul}
-use Rattle.lists.specs.Splice.{splice, getD-in, getD-below, getD-above}
 
 -- the n bytes of xs from place i as a number, most significant byte first
 unfoldable pub beAt : ℕ → List ℕ → ℕ → ℕ
@@ -57,24 +56,6 @@ be-bytesOf (suc n) v =
     let f : beAt (1 + n) l 0 ≡ v % 256 ^ suc n = rw pow-succ' (omega arith) in
     ap (λ (m : ℕ). beAt m l 0) (sym (one-add n)) ∙ f
 
--- a load of what was stored
-pub load-stored : (n v : ℕ) (xs : List ℕ) (i : ℕ) → i + n ≤ length xs → v < 256 ^ n → beAt n (splice xs i (bytesOf n v)) i ≡ v
-load-stored n v xs i h hv =
-    let l : length (bytesOf n v) ≡ n = length-bytesOf n v in
-    beAt-same n _ (bytesOf n v) i 0 (λ k hk. getD-in xs i (bytesOf n v) (omega arith) k (omega arith) ∙ rw zero-add)
-    ∙ be-bytesOf n v ∙ mod-eq-of-lt hv
-
--- a load outside a stored stretch
-pub load-below : (n : ℕ) (xs ys : List ℕ) (i j : ℕ) → i + length ys ≤ length xs → j + n ≤ i → beAt n (splice xs i ys) j ≡ beAt n xs j
-load-below n xs ys i j h o = beAt-same n _ xs j j (λ k hk. getD-below xs i ys h (j + k) (omega arith))
-
-pub load-above : (n : ℕ) (xs ys : List ℕ) (i j : ℕ) → i + length ys ≤ length xs → i + length ys ≤ j → beAt n (splice xs i ys) j ≡ beAt n xs j
-load-above n xs ys i j h o = beAt-same n _ xs j j (λ k hk. getD-above xs i ys h (j + k) (omega arith))
-
--- a load inside a stored stretch
-pub load-inside : (n : ℕ) (xs ys : List ℕ) (i j : ℕ) → i + length ys ≤ length xs → j + n ≤ length ys → beAt n (splice xs i ys) (i + j) ≡ beAt n ys j
-load-inside n xs ys i j h o = beAt-same n _ ys (i + j) j (λ k hk. rw add-assoc (getD-in xs i ys h (j + k) (omega arith)))
-
 -- a load in the left part of a concatenation, and of the number that stands last
 pub beAt-left : (n : ℕ) (xs ys : List ℕ) (i : ℕ) → i + n ≤ length xs → beAt n (xs ++ ys) i ≡ beAt n xs i
 beAt-left n xs ys i h = beAt-same n _ xs i i (λ k hk. List·getD-append xs ys 0 (i + k) (omega arith))
@@ -95,9 +76,6 @@ beAt-field n v s p q i e l h =
     ap₂ (beAt n) e (sym l ∙ sym (add-zero (length p)))
     ∙ beAt-part n p (bytesOf n v) q 0 (omega (arith, length-bytesOf n v))
     ∙ be-bytesOf n v ∙ mod-eq-of-lt h
-
-pub beAt-mid : (n v : ℕ) (p q : List ℕ) → v < 256 ^ n → beAt n (p ++ bytesOf n v ++ q) (length p) ≡ v
-beAt-mid n v p q h = beAt-field n v _ p q (length p) refl refl h
 
 -- ---- loads of bytes
 

@@ -1,5 +1,5 @@
 -- The first index at which a test holds: the definition, the invariant of a loop that looks for it, what the answer means.
-use mathlib.Core.Path.{_≡_, refl, ap, ap₂, sym, _∙_}
+use mathlib.Core.Path.{_≡_, refl, ap, sym, _∙_}
 use mathlib.Core.Bool.{Bool, true, false, cond, not}
 use Prim.Native.Nat.{ℕ, zero, suc, _+_, _-_, _≤_, _<_}
 use mathlib.Core.Logic.{⊎-elim}
@@ -98,15 +98,6 @@ module _ (f : ℕ → Bool) where
   pub first-at : (n : ℕ) → first f n < n → f (first f n) ≡ true
   unfolding first
   first-at n l = from-at 0 n (omega arith)
-
--- tests that agree below n have the same first index
-pub first-same : (f g : ℕ → Bool) (n : ℕ) → ((k : ℕ) → k < n → f k ≡ g k) → first f n ≡ first g n
-unfolding first firstFrom
-first-same f g n h = go 0 n (λ k l. h k (omega arith))
-  where
-    go : (i m : ℕ) → ((k : ℕ) → k < i + m → f k ≡ g k) → firstFrom f i m ≡ firstFrom g i m
-    go i zero h = refl
-    go i (suc m) h = ap₂ (λ (t : Bool) (r : ℕ). cond t i r) (h i (omega arith)) (go (suc i) m (λ k l. h k (omega arith)))
 
 -- a test that fails at no index below n holds at each
 pub every-below : (f : ℕ → Bool) (n : ℕ) → first (λ k. not (f k)) n ≡ n → (k : ℕ) → k < n → f k ≡ true

@@ -8,7 +8,6 @@ pub mod Highest
 pub mod Every
 pub mod Ascend
 pub mod Picks
-pub mod Fold
 pub mod Equal
 pub mod Compare
 pub mod Walk

@@ -168,9 +168,6 @@ all-insert f x (y ∷ l) h k = go (ltb x y) (eqb x y) (all-insert f x l h (and-r
     go false false ih = both (and-l (f y) (all f l) k) ih
 
 -- the set of a list holds the same numbers
-pub mem-insert : (y x : ℕ) (l : List ℕ) → mem y (insertOnce x l) ≡ (eqb x y || mem y l)
-mem-insert y x l = any-insert (λ z. eqb z y) x l
-
 pub mem-set : (y : ℕ) (l : List ℕ) → mem y (ascendingSet l) ≡ mem y l
 mem-set y l = any-set (λ z. eqb z y) l
 
