@@ -10,6 +10,7 @@ use lib.Seq.{getD-append-add, length-take-le, getD-take, getD-drop, ext-getD}
 use native.Mathlib.Numerals.{one-add}
 use lib.Dec.{lit<}
 use lib.Arith.{mod-mul}
+use Rattle.lists.specs.Splice.{splice, getD-below, getD-above}
 
 -- the n bytes of xs from place i as a number, most significant byte first
 unfoldable pub beAt : ℕ → List ℕ → ℕ → ℕ
@@ -55,6 +56,13 @@ be-bytesOf (suc n) v =
     let e : beAt n (bytesOf n v) 0 ≡ v % 256 ^ n = be-bytesOf n v in
     let f : beAt (1 + n) l 0 ≡ v % 256 ^ suc n = rw pow-succ' (omega arith) in
     ap (λ (m : ℕ). beAt m l 0) (sym (one-add n)) ∙ f
+
+-- a load outside a stored stretch
+pub load-below : (n : ℕ) (xs ys : List ℕ) (i j : ℕ) → i + length ys ≤ length xs → j + n ≤ i → beAt n (splice xs i ys) j ≡ beAt n xs j
+load-below n xs ys i j h o = beAt-same n _ xs j j (λ k hk. getD-below xs i ys h (j + k) (omega arith))
+
+pub load-above : (n : ℕ) (xs ys : List ℕ) (i j : ℕ) → i + length ys ≤ length xs → i + length ys ≤ j → beAt n (splice xs i ys) j ≡ beAt n xs j
+load-above n xs ys i j h o = beAt-same n _ xs j j (λ k hk. getD-above xs i ys h (j + k) (omega arith))
 
 -- a load in the left part of a concatenation, and of the number that stands last
 pub beAt-left : (n : ℕ) (xs ys : List ℕ) (i : ℕ) → i + n ≤ length xs → beAt n (xs ++ ys) i ≡ beAt n xs i
