@@ -4,9 +4,13 @@ use borrow.Author.Needs.{needs}
 use Rattle.codec.proofs.bytes.be64.Statement.{statement}
 use Rattle.codec.proofs.bytes.be64.Tie as tie
 
+-- places that are cited more than once
+abbrev start : tie.After-wide2 → tie.Start
+start c = c .before .before .before .before .before
+
 returns : tie.Need-returns
 returns c =
-    omega (arith, beAt-add 4 4 (c .before .before .before .before .before .args .s .now) (c .before .before .before .before .before .args .i))
+    omega (arith, beAt-add 4 4 (start c .args .s .now) (start c .args .i))
 
 pub be64-spec : {M : Type 1} → statement M
 be64-spec =

@@ -1,7 +1,6 @@
 -- While all bytes from i up to k were zero, what is left decides; once one was not, the answer stands.
 use Prim.Native.Nat.{_-_, _≤_}
 use native.Mathlib.Omega.{arith}
-use mathlib.Core.Bool.{Bool}
 use lib.ListN.{length}
 use Rattle.codec.specs.Same.{zeroed, Compared, zeros-none, zeros-more, zeros-all}
 use Rattle.codec.proofs.bytes.zeros.Statement.{statement}

@@ -9,8 +9,12 @@ use Rattle.codec.proofs.objects.is_cell.Tie as tie
 returns : tie.Need-returns
 returns c = sym (cell-out (c .before .before .args .id .0) (λ l m. omega arith) (c .before .before .args .key))
 
+-- places that are cited more than once
+abbrev start : tie.Then2 → tie.Start
+start c = c .before .before .before .before
+
 returns-2 : tie.Need-returns-2
-returns-2 c = sym (cell-out (c .before .before .before .before .args .id .0) (λ l m. omega arith) (c .before .before .before .before .args .key))
+returns-2 c = sym (cell-out (start c .args .id .0) (λ l m. omega arith) (start c .args .key))
 
 returns-3 : tie.Need-returns-3
 returns-3 c =
