@@ -1,12 +1,13 @@
--- A key as digits: its remainder by the number of heads, then the bits of its quotient, lowest first. A place of the tree is named by the
--- digits that lead there: as many as it is deep, and with what is left of the quotient they are the key.
-use mathlib.Core.Path.{_≡_, refl, ap, ap₂, sym, _∙_}
+-- A key as digits: its head, then the bits of its rest, lowest first. A place of the tree is named by the digits that lead there: as many
+-- as it is deep, and with what is left of the rest they are the key.
+use mathlib.Core.Path.{_≡_, refl, ap, sym, _∙_}
 use mathlib.Core.List.{List, [], _∷_}
-use Prim.Native.Nat.{ℕ, zero, suc, _+_, _*_, _/_, _%_, _^_, _<_}
-use native.Mathlib.Nat.{div-add-mod', pow-suc}
+use Prim.Native.Nat.{ℕ, zero, suc, _+_, _/_, _%_, _^_, _<_}
+use native.Mathlib.Nat.{pow-suc}
 use native.Mathlib.Numerals.{add-one}
 use native.Mathlib.Omega.{arith}
 use lib.ListN.{length}
+use Rattle.tree.specs.Form.{Form, Formed}
 
 -- x halved n times, rounded down
 unfoldable pub halves : ℕ → ℕ → ℕ
@@ -33,26 +34,26 @@ halves-none zero x h = omega arith
 halves-none (suc n) x h = halves-front x n ∙ halves-none n (x / 2) (omega (arith, pow-suc 2 n))
 
 -- the digits of k above depth j, the lowest of them first
-unfoldable pub digits : ℕ → ℕ → ℕ → List ℕ
-digits heads k zero = (k % heads) ∷ []
-digits heads k (suc j) = (halves (k / heads) j % 2) ∷ digits heads k j
+unfoldable pub digits : Form → ℕ → ℕ → List ℕ
+digits f k zero = f .head k ∷ []
+digits f k (suc j) = (halves (f .rest k) j % 2) ∷ digits f k j
 
-digits-length : (heads k j : ℕ) → length (digits heads k j) ≡ suc j
+digits-length : (f : Form) (k j : ℕ) → length (digits f k j) ≡ suc j
 unfolding digits
-digits-length heads k zero = refl
-digits-length heads k (suc j) = ap suc (digits-length heads k j)
+digits-length f k zero = refl
+digits-length f k (suc j) = ap suc (digits-length f k j)
 
 -- their number is the depth
-pub digits-depth : (heads k j l i : ℕ) → digits heads k j ≡ digits heads l i → j ≡ i
-digits-depth heads k j l i e = omega (arith, sym (digits-length heads k j) ∙ ap length e ∙ digits-length heads l i)
+pub digits-depth : (f : Form) (k j l i : ℕ) → digits f k j ≡ digits f l i → j ≡ i
+digits-depth f k j l i e = omega (arith, sym (digits-length f k j) ∙ ap length e ∙ digits-length f l i)
 
--- with what is left of the quotient they are the key
-pub digits-key : (heads k l j : ℕ) → digits heads k j ≡ digits heads l j → halves (k / heads) j ≡ halves (l / heads) j → k ≡ l
+-- with what is left of the rest they are the key
+pub digits-key : {f : Form} → Formed f → (k l j : ℕ) → digits f k j ≡ digits f l j → halves (f .rest k) j ≡ halves (f .rest l) j → k ≡ l
 unfolding digits halves
-digits-key heads k l zero e h =
-    let r : k % heads ≡ l % heads = cc in
-    sym (div-add-mod' k heads) ∙ ap₂ (λ (x y : ℕ). x * heads + y) h r ∙ div-add-mod' l heads
-digits-key heads k l (suc j) e h =
-    let r : halves (k / heads) j % 2 ≡ halves (l / heads) j % 2 = cc in
-    let t : digits heads k j ≡ digits heads l j = cc in
-    digits-key heads k l j t (omega arith)
+digits-key {f} w k l zero e h =
+    let r : f .head k ≡ f .head l = cc in
+    w .apart k l r h
+digits-key {f} w k l (suc j) e h =
+    let r : halves (f .rest k) j % 2 ≡ halves (f .rest l) j % 2 = cc in
+    let t : digits f k j ≡ digits f l j = cc in
+    digits-key w k l j t (omega arith)

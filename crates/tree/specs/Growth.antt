@@ -5,30 +5,31 @@ use mathlib.Core.Path.{_≡_, refl, ap, sym, subst, _∙_}
 use mathlib.Core.Bool.{Bool, true, false, cond, not, _&&_}
 use mathlib.Core.List.{List}
 use mathlib.Core.Logic.{⊎-elim}
-use Prim.Native.Nat.{ℕ, zero, suc, _+_, _-_, _*_, _/_, _%_, _≤_, _<_}
+use Prim.Native.Nat.{ℕ, zero, suc, _+_, _-_, _*_, _%_, _≤_, _<_}
 use native.Mathlib.Nat.{eq-or-lt-of-le}
 use native.Mathlib.Omega.{arith}
 use lib.Dec.{eqb, leb}
 use lib.ListN.{length, getD}
 use borrow.Author.Tests.{eqb-true, eqb-false, eq-eqb, ne-eqb, le-leb, lt-leb}
 use Rattle.lists.specs.Highest.{highest, highest-yes, highest-no}
+use Rattle.tree.specs.Form.{Form}
 use Rattle.tree.specs.Digits.{halves, digits, digits-depth}
-use Rattle.tree.specs.Tree.{wordEnd, ofKey, slotOf, way, Passed, Tree, slot-below, slot-own, end-has, end-some}
+use Rattle.tree.specs.Tree.{ofKey, slotOf, way, Passed, Tree, slot-below, slot-own, end-has, end-some}
 
 -- keys that fit below p, and at p
-fits-more : (key : ℕ → ℕ) (p : ℕ) → ((q : ℕ) → q < p → key q < wordEnd) → key p < wordEnd → (q : ℕ) → q < p + 1 → key q < wordEnd
-fits-more key p below here q h =
+fits-more : (key : ℕ → ℕ) (end p : ℕ) → ((q : ℕ) → q < p → key q < end) → key p < end → (q : ℕ) → q < p + 1 → key q < end
+fits-more key end p below here q h =
     ⊎-elim (λ (i : q ≡ p). omega (arith, ap key i)) (λ (i : q < p). below q i) (eq-or-lt-of-le (let l : q ≤ p = omega arith in l))
 
 -- an index without a key
-pub tree-still : {key : ℕ → ℕ} {heads most p : ℕ} {slots : List ℕ} → Tree key heads most p slots → p < most → key p ≡ 0
-    → Tree key heads most (p + 1) slots
-tree-still {key} {heads} {most} {p} {slots} t l z = record {
-  some = t .some;
+pub tree-still : {key : ℕ → ℕ} {f : Form} {most p : ℕ} {slots : List ℕ} → Tree key f most p slots → p < most → key p < f .first → key p < f .end
+    → Tree key f most (p + 1) slots
+tree-still {key} {f} {most} {p} {slots} t l z fit = record {
+  formed = t .formed;
   below = omega arith;
   few = t .few;
   room = t .room;
-  fits = fits-more key p (t .fits) (omega arith);
+  fits = fits-more key (f .end) p (t .fits) fit;
   depth = t .depth;
   node = t .node;
   holds = t .holds;
@@ -44,15 +45,15 @@ pub record Stored (heads p s : ℕ) (kid : ℕ → ℕ) (old new : List ℕ) : T
   pub rest : (z : ℕ) → z < heads + 2 * p → (z ≡ s → ⊥) → getD new z 0 ≡ getD old z 0
 
 -- what the ways hold then
-newNode : {key : ℕ → ℕ} {heads most p : ℕ} {slots : List ℕ} → Tree key heads most p slots → ℕ → ℕ → ℕ → ℕ
-newNode {key} {heads} {most} {p} {slots} t s k j = cond (leb j (t .depth k)) (cond (eqb (way t k j) s) (p + 1) (t .node k j)) 0
+newNode : {key : ℕ → ℕ} {f : Form} {most p : ℕ} {slots : List ℕ} → Tree key f most p slots → ℕ → ℕ → ℕ → ℕ
+newNode {key} {f} {most} {p} {slots} t s k j = cond (leb j (t .depth k)) (cond (eqb (way t k j) s) (p + 1) (t .node k j)) 0
 
 -- where they end, if the key of p is new: those that ended at s go on by one
-newDepth : {key : ℕ → ℕ} {heads most p : ℕ} {slots : List ℕ} → Tree key heads most p slots → ℕ → ℕ → ℕ
-newDepth {key} {heads} {most} {p} {slots} t s k = cond (eqb (way t k (t .depth k)) s && not (eqb k (key p))) (t .depth k + 1) (t .depth k)
+newDepth : {key : ℕ → ℕ} {f : Form} {most p : ℕ} {slots : List ℕ} → Tree key f most p slots → ℕ → ℕ → ℕ
+newDepth {key} {f} {most} {p} {slots} t s k = cond (eqb (way t k (t .depth k)) s && not (eqb k (key p))) (t .depth k + 1) (t .depth k)
 
-module _ {key : ℕ → ℕ} {heads most p : ℕ} {old new : List ℕ} {s : ℕ} {kid : ℕ → ℕ} (t : Tree key heads most p old)
-    (here : s ≡ way t (key p) (t .depth (key p))) (st : Stored heads p s kid old new) (l : p < most) (some-key : 1 ≤ key p) (fit : key p < wordEnd) where
+module _ {key : ℕ → ℕ} {f : Form} {most p : ℕ} {old new : List ℕ} {s : ℕ} {kid : ℕ → ℕ} (t : Tree key f most p old)
+    (here : s ≡ way t (key p) (t .depth (key p))) (st : Stored (f .heads) p s kid old new) (l : p < most) (some-key : f .first ≤ key p) (fit : key p < f .end) where
   node-hit : (k j : ℕ) → j ≤ t .depth k → way t k j ≡ s → newNode t s k j ≡ p + 1
   unfolding newNode
   node-hit k j h e = simp (le-leb j (t .depth k) h, eq-eqb (way t k j) s e)
@@ -76,21 +77,21 @@ module _ {key : ℕ → ℕ} {heads most p : ℕ} {old new : List ℕ} {s : ℕ}
           st .rest (way t k j) (slot-below t k j h) i ∙ t .holds k j h ∙ sym (node-miss k j h i)
 
   -- a way that does not go through s there goes on as before
-  on-miss : (k j : ℕ) → j < t .depth k → (way t k j ≡ s → ⊥) → slotOf heads (newNode t s) k (suc j) ≡ way t k (suc j)
+  on-miss : (k j : ℕ) → j < t .depth k → (way t k j ≡ s → ⊥) → slotOf f (newNode t s) k (suc j) ≡ way t k (suc j)
   unfolding slotOf
-  on-miss k j h e = ap (λ (x : ℕ). heads + 2 * (x - 1) + halves (k / heads) j % 2) (node-miss k j (omega arith) e)
+  on-miss k j h e = ap (λ (x : ℕ). f .heads + 2 * (x - 1) + halves (f .rest k) j % 2) (node-miss k j (omega arith) e)
 
   -- one that does goes on below p
-  on-hit : (k j : ℕ) → j ≤ t .depth k → way t k j ≡ s → getD new (slotOf heads (newNode t s) k (suc j)) 0 ≡ kid (halves (k / heads) j % 2)
+  on-hit : (k j : ℕ) → j ≤ t .depth k → way t k j ≡ s → getD new (slotOf f (newNode t s) k (suc j)) 0 ≡ kid (halves (f .rest k) j % 2)
   unfolding slotOf
   on-hit k j h e =
       let i : p + 1 - 1 ≡ p = omega arith in
-      ap (λ (x : ℕ). getD new (heads + 2 * (x - 1) + halves (k / heads) j % 2) 0) (node-hit k j h e)
-      ∙ ap (λ (x : ℕ). getD new (heads + 2 * x + halves (k / heads) j % 2) 0) i
-      ∙ st .kids (halves (k / heads) j % 2) (omega arith)
+      ap (λ (x : ℕ). getD new (f .heads + 2 * (x - 1) + halves (f .rest k) j % 2) 0) (node-hit k j h e)
+      ∙ ap (λ (x : ℕ). getD new (f .heads + 2 * x + halves (f .rest k) j % 2) 0) i
+      ∙ st .kids (halves (f .rest k) j % 2) (omega arith)
 
   -- it has the digits of p's key
-  hit-digits : (k j : ℕ) → j ≤ t .depth k → way t k j ≡ s → digits heads (key p) (t .depth (key p)) ≡ digits heads k j
+  hit-digits : (k j : ℕ) → j ≤ t .depth k → way t k j ≡ s → digits f (key p) (t .depth (key p)) ≡ digits f k j
   hit-digits k j h e = sym (slot-own t k j (key p) (t .depth (key p)) h (omega arith) (e ∙ here))
 
   -- and meets there what that key meets
@@ -99,32 +100,32 @@ module _ {key : ℕ → ℕ} {heads most p : ℕ} {old new : List ℕ} {s : ℕ}
 
   -- not above the depth at which that key ends
   hit-deep : (k j : ℕ) → j ≤ t .depth k → way t k j ≡ s → j < t .depth (key p) → ⊥
-  hit-deep k j h e i = omega (arith, digits-depth heads (key p) (t .depth (key p)) k j (hit-digits k j h e))
+  hit-deep k j h e i = omega (arith, digits-depth f (key p) (t .depth (key p)) k j (hit-digits k j h e))
 
   -- p is the node that it goes past
   passed-hit : (depth : ℕ → ℕ) → depth (key p) ≡ t .depth (key p) → (k j : ℕ) → j ≤ t .depth k → way t k j ≡ s → (key p ≡ k → ⊥)
-      → Passed key heads (p + 1) depth k j (newNode t s k j)
-  passed-hit depth d k j h e other = subst (λ (v : ℕ). Passed key heads (p + 1) depth k j v) (sym (node-hit k j h e)) (record {
+      → Passed key f (p + 1) depth k j (newNode t s k j)
+  passed-hit depth d k j h e other = subst (λ (v : ℕ). Passed key f (p + 1) depth k j v) (sym (node-hit k j h e)) (record {
     low = omega arith;
     high = omega arith;
-    some = subst (λ (x : ℕ). 1 ≤ x) own some-key;
+    some = subst (λ (x : ℕ). f .first ≤ x) own some-key;
     other = λ i. other (own ∙ i);
-    own = subst (λ (x : ℕ). digits heads x (depth x) ≡ digits heads k j) own (ap (digits heads (key p)) d ∙ hit-digits k j h e);
+    own = subst (λ (x : ℕ). digits f x (depth x) ≡ digits f k j) own (ap (digits f (key p)) d ∙ hit-digits k j h e);
   })
     where
       own : key p ≡ key (p + 1 - 1)
       own = let back : p ≡ p + 1 - 1 = omega arith in ap key back
 
   passed-miss : (depth : ℕ → ℕ) → (k j : ℕ) → j < t .depth k → (way t k j ≡ s → ⊥) → depth (key (t .node k j - 1)) ≡ t .depth (key (t .node k j - 1))
-      → Passed key heads (p + 1) depth k j (newNode t s k j)
+      → Passed key f (p + 1) depth k j (newNode t s k j)
   passed-miss depth k j h e d =
       let w = t .passed k j h in
-      subst (λ (v : ℕ). Passed key heads (p + 1) depth k j v) (sym (node-miss k j (omega arith) e)) (record {
+      subst (λ (v : ℕ). Passed key f (p + 1) depth k j v) (sym (node-miss k j (omega arith) e)) (record {
         low = w .low;
         high = omega (arith, w .high);
         some = w .some;
         other = w .other;
-        own = ap (digits heads (key (t .node k j - 1))) d ∙ w .own;
+        own = ap (digits f (key (t .node k j - 1))) d ∙ w .own;
       })
 
   ends-own : (d : ℕ) → d ≡ t .depth (key p) → newNode t s (key p) d ≡ highest (ofKey key (key p)) (p + 1)
@@ -137,8 +138,8 @@ module _ {key : ℕ → ℕ} {heads most p : ℕ} {old new : List ℕ} {s : ℕ}
 
   -- ---- a key that is there: the children of its node, copied
 
-  module _ (there : 1 ≤ getD old s 0) (copied : (b : ℕ) → b < 2 → kid b ≡ getD old (heads + 2 * (getD old s 0 - 1) + b) 0) where
-    holds-again : (k j : ℕ) → j ≤ t .depth k → getD new (slotOf heads (newNode t s) k j) 0 ≡ newNode t s k j
+  module _ (there : 1 ≤ getD old s 0) (copied : (b : ℕ) → b < 2 → kid b ≡ getD old (f .heads + 2 * (getD old s 0 - 1) + b) 0) where
+    holds-again : (k j : ℕ) → j ≤ t .depth k → getD new (slotOf f (newNode t s) k j) 0 ≡ newNode t s k j
     unfolding slotOf
     holds-again k zero h = old-way k zero h
     holds-again k (suc j) h = go (eqb (way t k j) s) refl
@@ -146,38 +147,38 @@ module _ {key : ℕ → ℕ} {heads most p : ℕ} {old new : List ℕ} {s : ℕ}
         lower : j ≤ t .depth k
         lower = omega arith
 
-        child : way t k j ≡ s → getD old (heads + 2 * (getD old s 0 - 1) + halves (k / heads) j % 2) 0 ≡ t .node k (suc j)
-        child e = ap (λ (x : ℕ). getD old (heads + 2 * (x - 1) + halves (k / heads) j % 2) 0) (sym (hit-node k j lower e)) ∙ t .holds k (suc j) h
+        child : way t k j ≡ s → getD old (f .heads + 2 * (getD old s 0 - 1) + halves (f .rest k) j % 2) 0 ≡ t .node k (suc j)
+        child e = ap (λ (x : ℕ). getD old (f .heads + 2 * (x - 1) + halves (f .rest k) j % 2) 0) (sym (hit-node k j lower e)) ∙ t .holds k (suc j) h
 
         once : way t k j ≡ s → way t k (suc j) ≡ s → ⊥
-        once e i = omega (arith, digits-depth heads k j k (suc j) (sym (hit-digits k j lower e) ∙ hit-digits k (suc j) h i))
+        once e i = omega (arith, digits-depth f k j k (suc j) (sym (hit-digits k j lower e) ∙ hit-digits k (suc j) h i))
 
-        go : (b : Bool) → eqb (way t k j) s ≡ b → getD new (slotOf heads (newNode t s) k (suc j)) 0 ≡ newNode t s k (suc j)
+        go : (b : Bool) → eqb (way t k j) s ≡ b → getD new (slotOf f (newNode t s) k (suc j)) 0 ≡ newNode t s k (suc j)
         go true e =
             let i = eqb-true (way t k j) s e in
-            on-hit k j lower i ∙ copied (halves (k / heads) j % 2) (omega arith) ∙ child i ∙ sym (node-miss k (suc j) h (once i))
+            on-hit k j lower i ∙ copied (halves (f .rest k) j % 2) (omega arith) ∙ child i ∙ sym (node-miss k (suc j) h (once i))
         go false e = ap (λ (x : ℕ). getD new x 0) (on-miss k j h (eqb-false (way t k j) s e)) ∙ old-way k (suc j) h
 
-    passed-again : (k j : ℕ) → j < t .depth k → Passed key heads (p + 1) (t .depth) k j (newNode t s k j)
+    passed-again : (k j : ℕ) → j < t .depth k → Passed key f (p + 1) (t .depth) k j (newNode t s k j)
     passed-again k j h = go (eqb (way t k j) s) refl
       where
-        go : (b : Bool) → eqb (way t k j) s ≡ b → Passed key heads (p + 1) (t .depth) k j (newNode t s k j)
+        go : (b : Bool) → eqb (way t k j) s ≡ b → Passed key f (p + 1) (t .depth) k j (newNode t s k j)
         go true e =
             let i = eqb-true (way t k j) s e in
             passed-hit (t .depth) refl k j (omega arith) i (λ x. hit-deep k j (omega arith) i (subst (λ (y : ℕ). j < t .depth y) (sym x) h))
         go false e = passed-miss (t .depth) k j h (eqb-false (way t k j) s e) refl
 
-    ends-again : (k : ℕ) → 1 ≤ k → newNode t s k (t .depth k) ≡ highest (ofKey key k) (p + 1)
+    ends-again : (k : ℕ) → f .first ≤ k → newNode t s k (t .depth k) ≡ highest (ofKey key k) (p + 1)
     ends-again k some-k = go (eqb k (key p)) refl
       where
-        one : (x y : ℕ) → 1 ≤ x → 1 ≤ t .node x (t .depth x) → t .node x (t .depth x) ≡ y → key (y - 1) ≡ x
+        one : (x y : ℕ) → f .first ≤ x → 1 ≤ t .node x (t .depth x) → t .node x (t .depth x) ≡ y → key (y - 1) ≡ x
         one x y a b e = subst (λ (z : ℕ). key (z - 1) ≡ x) e (end-has t x a b)
 
         apart : (k ≡ key p → ⊥) → way t k (t .depth k) ≡ s → ⊥
         apart d e =
-            let f = hit-node k (t .depth k) (omega arith) e in
-            let g = hit-node (key p) (t .depth (key p)) (omega arith) (sym here) in
-            d (sym (one k (getD old s 0) some-k (omega arith) f) ∙ one (key p) (getD old s 0) some-key (omega arith) g)
+            let a = hit-node k (t .depth k) (omega arith) e in
+            let b = hit-node (key p) (t .depth (key p)) (omega arith) (sym here) in
+            d (sym (one k (getD old s 0) some-k (omega arith) a) ∙ one (key p) (getD old s 0) some-key (omega arith) b)
 
         go : (b : Bool) → eqb k (key p) ≡ b → newNode t s k (t .depth k) ≡ highest (ofKey key k) (p + 1)
         go true e =
@@ -186,13 +187,13 @@ module _ {key : ℕ → ℕ} {heads most p : ℕ} {old new : List ℕ} {s : ℕ}
             let d = eqb-false k (key p) e in
             node-miss k (t .depth k) (omega arith) (apart d) ∙ t .ends k some-k ∙ ends-other k d
 
-    pub tree-again : Tree key heads most (p + 1) new
+    pub tree-again : Tree key f most (p + 1) new
     tree-again = record {
-      some = t .some;
+      formed = t .formed;
       below = omega arith;
       few = t .few;
       room = omega (arith, st .size, t .room);
-      fits = fits-more key p (t .fits) fit;
+      fits = fits-more key (f .end) p (t .fits) fit;
       depth = t .depth;
       node = newNode t s;
       holds = holds-again;
@@ -237,7 +238,7 @@ module _ {key : ℕ → ℕ} {heads most p : ℕ} {old new : List ℕ} {s : ℕ}
         here-not : j ≡ t .depth k → j < t .depth k
         here-not i = omega (arith, stays k (subst (λ (x : ℕ). way t k x ≡ s → ⊥) i e))
 
-    holds-new : (k j : ℕ) → j ≤ newDepth t s k → getD new (slotOf heads (newNode t s) k j) 0 ≡ newNode t s k j
+    holds-new : (k j : ℕ) → j ≤ newDepth t s k → getD new (slotOf f (newNode t s) k j) 0 ≡ newNode t s k j
     unfolding slotOf
     holds-new k zero h = old-way k zero (omega arith)
     holds-new k (suc j) h = go (eqb (way t k j) s) refl
@@ -245,16 +246,16 @@ module _ {key : ℕ → ℕ} {heads most p : ℕ} {old new : List ℕ} {s : ℕ}
         lower : j ≤ t .depth k
         lower = omega (arith, by-one k)
 
-        go : (b : Bool) → eqb (way t k j) s ≡ b → getD new (slotOf heads (newNode t s) k (suc j)) 0 ≡ newNode t s k (suc j)
+        go : (b : Bool) → eqb (way t k j) s ≡ b → getD new (slotOf f (newNode t s) k (suc j)) 0 ≡ newNode t s k (suc j)
         go true e =
             let i = eqb-true (way t k j) s e in
-            on-hit k j lower i ∙ no-kids (halves (k / heads) j % 2) (omega arith) ∙ sym (node-past k (suc j) (omega (arith, last k j lower i)))
+            on-hit k j lower i ∙ no-kids (halves (f .rest k) j % 2) (omega arith) ∙ sym (node-past k (suc j) (omega (arith, last k j lower i)))
         go false e =
             let d = eqb-false (way t k j) s e in
             let i : j < t .depth k = inside k j h d in
             ap (λ (x : ℕ). getD new x 0) (on-miss k j i d) ∙ old-way k (suc j) i
 
-    passed-new : (k j : ℕ) → j < newDepth t s k → Passed key heads (p + 1) (newDepth t s) k j (newNode t s k j)
+    passed-new : (k j : ℕ) → j < newDepth t s k → Passed key f (p + 1) (newDepth t s) k j (newNode t s k j)
     passed-new k j h = go (eqb (way t k j) s) refl
       where
         lower : j ≤ t .depth k
@@ -263,7 +264,7 @@ module _ {key : ℕ → ℕ} {heads most p : ℕ} {old new : List ℕ} {s : ℕ}
         other : way t k j ≡ s → key p ≡ k → ⊥
         other i x = hit-deep k j lower i (omega (arith, subst (λ (y : ℕ). j < newDepth t s y) (sym x) h, own-stays))
 
-        go : (b : Bool) → eqb (way t k j) s ≡ b → Passed key heads (p + 1) (newDepth t s) k j (newNode t s k j)
+        go : (b : Bool) → eqb (way t k j) s ≡ b → Passed key f (p + 1) (newDepth t s) k j (newNode t s k j)
         go true e = let i = eqb-true (way t k j) s e in passed-hit (newDepth t s) own-stays k j lower i (other i)
         go false e =
             let d = eqb-false (way t k j) s e in
@@ -273,7 +274,7 @@ module _ {key : ℕ → ℕ} {heads most p : ℕ} {old new : List ℕ} {s : ℕ}
             passed-miss (newDepth t s) k j (inside k j h d) d
             (stays o (λ i. absurd (omega (arith, hit-node o (t .depth o) (omega arith) i))))
 
-    ends-new : (k : ℕ) → 1 ≤ k → newNode t s k (newDepth t s k) ≡ highest (ofKey key k) (p + 1)
+    ends-new : (k : ℕ) → f .first ≤ k → newNode t s k (newDepth t s k) ≡ highest (ofKey key k) (p + 1)
     ends-new k some-k = go (eqb k (key p)) refl
       where
         by : (b : Bool) → (k ≡ key p → ⊥) → eqb (way t k (t .depth k)) s ≡ b → newNode t s k (newDepth t s k) ≡ highest (ofKey key k) p
@@ -290,13 +291,13 @@ module _ {key : ℕ → ℕ} {heads most p : ℕ} {old new : List ℕ} {s : ℕ}
             (ends-own (newDepth t s (key p)) own-stays)
         go false e = let d = eqb-false k (key p) e in by (eqb (way t k (t .depth k)) s) d refl ∙ ends-other k d
 
-    pub tree-new : Tree key heads most (p + 1) new
+    pub tree-new : Tree key f most (p + 1) new
     tree-new = record {
-      some = t .some;
+      formed = t .formed;
       below = omega arith;
       few = t .few;
       room = omega (arith, st .size, t .room);
-      fits = fits-more key p (t .fits) fit;
+      fits = fits-more key (f .end) p (t .fits) fit;
       depth = newDepth t s;
       node = newNode t s;
       holds = holds-new;

@@ -1,6 +1,6 @@
 -- An index put at its place: three stores, the two children first. What they leave is a tree of one index more, whatever the keys are, if
 -- the slot is the place of the index's key.
-use mathlib.Core.Path.{_≡_, refl, ap, _∙_}
+use mathlib.Core.Path.{_≡_, refl, ap, sym, subst, _∙_}
 use mathlib.Core.Bool.{Bool, true, false, cond}
 use mathlib.Core.List.{List}
 use Prim.Native.Nat.{ℕ, zero, suc, _+_, _-_, _*_, _≤_, _<_}
@@ -8,8 +8,9 @@ use native.Mathlib.Omega.{arith}
 use lib.Dec.{eqb}
 use lib.ListN.{length, getD, set, length-set}
 use lib.Seq.{getD-set-same, getD-set-other}
-use Rattle.tree.specs.Tree.{wordEnd, Tree}
-use Rattle.tree.specs.Search.{Placed, place-high, place-low}
+use Rattle.tree.specs.Form.{Form, wordEnd}
+use Rattle.tree.specs.Tree.{Tree}
+use Rattle.tree.specs.Search.{Place, Placed, place-high, place-low}
 use Rattle.tree.specs.Growth.{Stored, tree-again, tree-new}
 
 -- there is room for p at the slot s, where a node below p stands, or none
@@ -19,18 +20,22 @@ pub record Room (heads p s : ℕ) (slots : List ℕ) : Type 0 where
   pub room : heads + 2 * p + 2 ≤ length slots
   pub high : getD slots s 0 ≤ p
 
-pub placed-room : {key : ℕ → ℕ} {heads most p : ℕ} {slots : List ℕ} {s : ℕ} → Placed key heads most p slots s → Room heads p s slots
-placed-room {key} {heads} {most} {p} {slots} {s} w = record {
-  fits = omega (arith, w .below, w .place .tree .few);
-  low = place-low (w .place);
-  room = omega (arith, w .below, w .place .tree .room);
-  high = place-high (w .place);
+pub place-fits : {key : ℕ → ℕ} {f : Form} {most p : ℕ} {slots : List ℕ} {k s : ℕ} → Place key f most p slots k s → p < most → Room (f .heads) p s slots
+place-fits w l = record {
+  fits = omega (arith, l, w .tree .few);
+  low = place-low w;
+  room = omega (arith, l, w .tree .room);
+  high = place-high w;
 }
 
--- p was put there
+pub placed-room : {key : ℕ → ℕ} {f : Form} {most p : ℕ} {slots : List ℕ} {s : ℕ} → Placed key f most p slots s → Room (f .heads) p s slots
+placed-room w = place-fits (w .place) (w .below)
+
+-- p was put there: a tree of any form with so many heads
 pub record Put (heads p s : ℕ) (old new : List ℕ) : Type 0 where
   pub size : length new ≡ length old
-  pub grown : (key : ℕ → ℕ) (most : ℕ) → Placed key heads most p old s → Tree key heads most (p + 1) new
+  pub behind : (z : ℕ) → heads + 2 * p + 2 ≤ z → getD new z 0 ≡ getD old z 0
+  pub grown : (f : Form) (key : ℕ → ℕ) (most : ℕ) → f .heads ≡ heads → Placed key f most p old s → Tree key f most (p + 1) new
 
 -- the children x and y of p, and then p at the slot s
 abbrev storedWith : ℕ → ℕ → ℕ → ℕ → ℕ → List ℕ → List ℕ
@@ -78,10 +83,20 @@ module _ {heads p s : ℕ} {old : List ℕ} (r : Room heads p s old) where
       kids (suc zero) h = right
       kids (suc (suc b)) h = absurd (omega arith)
 
+  -- the slots behind are not touched
+  behind : (x y z : ℕ) → heads + 2 * p + 2 ≤ z → getD (storedWith heads p s x y old) z 0 ≡ getD old z 0
+  behind x y z l =
+      getD-set-other (set (set old (heads + 2 * p) x) (heads + 2 * p + 1) y) s z (p + 1) 0 (λ i. absurd (omega (arith, r .low)))
+      ∙ getD-set-other (set old (heads + 2 * p) x) (heads + 2 * p + 1) z y 0 (λ i. absurd (omega arith))
+      ∙ getD-set-other old (heads + 2 * p) z x 0 (λ i. absurd (omega arith))
+
   pub put-new : getD old s 0 ≡ 0 → Put heads p s old (storedWith heads p s 0 0 old)
   put-new e = record {
     size = stored 0 0 .size;
-    grown = λ key most w. tree-new (w .place .tree) (w .place .here) (stored 0 0) (w .below) (w .place .some) (w .fits) e (λ b h. none (eqb b 0));
+    behind = behind 0 0;
+    grown = λ f key most i w.
+        let st = subst (λ (h : ℕ). Stored h p s (kidsOf 0 0) old (storedWith heads p s 0 0 old)) (sym i) (stored 0 0) in
+        tree-new (w .place .tree) (w .place .here) st (w .below) (w .place .some) (w .fits) e (λ b h. none (eqb b 0));
   }
     where
       none : (t : Bool) → cond {A = ℕ} t 0 0 ≡ 0
@@ -100,7 +115,11 @@ module _ {heads p s : ℕ} {old : List ℕ} (r : Room heads p s old) where
         Put heads p s old (storedWith heads p s x (getD (set old (heads + 2 * p) x) (a + 1) 0) old)
     put-again = record {
       size = stored x y .size;
-      grown = λ key most w. tree-again (w .place .tree) (w .place .here) (stored x y) (w .below) (w .place .some) (w .fits) there copied;
+      behind = behind x y;
+      grown = λ f key most i w.
+          let st = subst (λ (h : ℕ). Stored h p s (kidsOf x y) old (storedWith heads p s x y old)) (sym i) (stored x y) in
+          let kids = subst (λ (h : ℕ). (b : ℕ) → b < 2 → kidsOf x y b ≡ getD old (h + 2 * (getD old s 0 - 1) + b) 0) (sym i) copied in
+          tree-again (w .place .tree) (w .place .here) st (w .below) (w .place .some) (w .fits) there kids;
     }
       where
         a : ℕ
