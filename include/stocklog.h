@@ -46,9 +46,15 @@
  * A VERSION is one more than the offset of the entry that last changed a cell; 0 for a cell never written. A removed cell has one.
  *
  * A REPLICA is a record of three numbers, which the caller keeps and hands over: the hosted set (one byte: bit 0 for object 1, up
- * to bit 7 for object 8), the position, and the count of cells; and a lent table of 24-byte cells: object 4, key 4, value 4 (0 if
- * removed), present 4 (1 or 0), version 8, in order of first writing. Its capacity is table_len / 24. Bytes past the counted
- * cells are not touched.
+ * to bit 7 for object 8), the position, and the count of cells; and a lent table of 24-byte rows, one cell each: object 4, key 4,
+ * value 4 (0 if removed), present 4 (1 or 0), version 8. Its capacity is table_len / 24. The first rows, as many as the count says,
+ * ascend strictly by object, then key, both compared as the stored unsigned numbers. Bytes past the counted rows are not touched.
+ * A call that takes a record with a table (stocklog_play, stocklog_append_checkpoint, stocklog_read_cell) answers 10 where its counted
+ * rows do not ascend so, whatever objects and keys they name, a cell twice included. Rows of objects that are not hosted, or not among
+ * the eight, are otherwise left alone: where a new row comes before them they move with all their bytes. stocklog_open_checkpoint and
+ * stocklog_audit look at no row of the table lent to them.
+ * A table kept from an earlier version of this library has its rows in order of first writing: it gets 10 unless it ascends by chance.
+ * Open the replica anew and play it.
  */
 #ifndef STOCKLOG_H
 #define STOCKLOG_H
@@ -72,7 +78,8 @@ enum {
     STOCKLOG_NO_COMMIT = 7,     /* a decision for an entry that is no commit record */
     STOCKLOG_DECIDED = 8,       /* the commit record has a decision record */
     STOCKLOG_FULL = 9,          /* tail equals the slots */
-    STOCKLOG_BAD_REPLICA = 10,  /* hosted set 0, count over the table's capacity, or position over the tail */
+    STOCKLOG_BAD_REPLICA = 10,  /* hosted set 0, count over the table's capacity, counted rows that do not ascend strictly by
+                                   object, then key, or position over the tail */
     STOCKLOG_FALSE_RECORD = 11, /* audit: a decision or checkpoint is not as played; out[3]: the lowest such offset */
     STOCKLOG_WAITING = 12,      /* play: a commit record whose reads are not all hosted, with no decision record yet */
     STOCKLOG_NO_ROOM = 13,      /* more new cells than the table has room for, more offsets than the list, or more than
@@ -102,8 +109,8 @@ enum {
 /*
  * Bytes of stack that are enough for any call, from its entry on, on x86-64. No call recurses, and its arrays have fixed
  * lengths, so its use does not depend on the log. For one call these are enough:
- *   2,300,000  stocklog_audit
- *   2,150,000  stocklog_append_checkpoint, stocklog_play
+ *   2,640,000  stocklog_audit
+ *   2,510,000  stocklog_play
  *       1,000  stocklog_open_fresh, stocklog_read_cell
  *   1,970,000  each other
  * tools/stack adds up what is used from the archive's machine code (frames along the calls, and 16 KiB for memset and memcpy),
@@ -201,7 +208,7 @@ uint32_t stocklog_append_checkpoint(
 
 /* ---- Replicas. Where a call answers a record, out[0] is the hosted set, out[1] the position, out[2] the count of cells. ---- */
 
-/* A replica of a set of objects at offset 0, with no cells: any table serves it. Done: the record. Refusals: 10 (hosted 0). */
+/* A replica of a set of objects at offset 0, with no cells: any table serves it. Done: the record. Refusals: 10 (hosted 0 alone). */
 uint32_t stocklog_open_fresh(uint8_t hosted, uint64_t out[4]);
 
 /*
@@ -216,8 +223,8 @@ uint32_t stocklog_open_checkpoint(
 /*
  * Plays a replica from its position to a stop. Whatever the answer, out has the record to go on with.
  * Done: the record at the stop. 12: the record at the commit record that it waits for; 13: at the entry that has no room; in both
- * cases the table shows all entries below that position and nothing of the one there. Any other refusal: the record as it
- * was given, the table unchanged. Refusals: 1, 2, 10, 3 (stop above the tail, or below the position), then at an entry 12
+ * cases the table shows all entries below that position and nothing of the one there. After all three the counted rows ascend.
+ * Any other refusal: the record as it was given, the table unchanged. Refusals: 1, 2, 10, 3 (stop above the tail, or below the position), then at an entry 12
  * before 13. 13 tells no offset here: it is the record's position.
  */
 uint32_t stocklog_play(
@@ -227,7 +234,8 @@ uint32_t stocklog_play(
 /*
  * What a replica shows for a cell.
  * Done: out[0] STOCKLOG_NEVER_WRITTEN, and 0, 0; or STOCKLOG_HOLDS, the value and the version; or STOCKLOG_REMOVED, 0 and the
- * version. Refusals: 10 (there is no tail, so the position is not tested), 3 (object not hosted, or key over its highest).
+ * version. Refusals: 10 (there is no tail, so the position is not tested; the rows are), 3 (object not hosted, or key over its
+ * highest).
  */
 uint32_t stocklog_read_cell(
     uint8_t hosted, uint64_t position, uint64_t count, const uint8_t *table, size_t table_len,
@@ -237,7 +245,8 @@ uint32_t stocklog_read_cell(
  * The audit: plays every object from offset 0 over a scratch table, and compares each decision and each checkpoint with the play.
  * Done: the record at the tail, as for a replica of all eight objects with the scratch as its table. 11: the same, and out[3] the
  * lowest decision or checkpoint that is not as played. 13: the record at the entry that has no room, whose offset out[3] tells
- * too; the scratch shows all entries below it. 1, 2: 0, 0, 0, the scratch unchanged. Refusals: 1, 2, 13, 11.
+ * too; the scratch shows all entries below it. After all three its counted rows ascend. 1, 2: 0, 0, 0, the scratch unchanged.
+ * Refusals: 1, 2, 13, 11.
  */
 uint32_t stocklog_audit(
     const uint8_t *log, size_t log_len, uint64_t tail, uint8_t *scratch, size_t scratch_len, uint64_t out[4]);

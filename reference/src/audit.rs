@@ -4,7 +4,6 @@ use crate::answer::{refuse, refuse_at, Answer, Refusal, FALSE_RECORD, NO_ROOM, W
 use crate::log::pass;
 use crate::replica::{Player, Record, Step};
 use crate::slot::{slot_at, Kind, Slot, COMMIT};
-use crate::table::row;
 
 /// What an audit found and left.
 pub struct Audited {
@@ -44,10 +43,22 @@ fn play_all(
     let earlier = pass(log, tail)?;
     audited.record.hosted = 0xFF;
     audited.committed = vec![false; tail];
-    let mut player = Player::new(log, &earlier, &audited.record, scratch);
+    let mut player = Player::new(log, &earlier, &audited.record, scratch, tail);
+    let answer = play_entries(log, tail, &mut player, audited);
+    audited.record.count = player.count as u64;
+    player.settle();
+    answer
+}
+
+fn play_entries(
+    log: &[u8],
+    tail: usize,
+    player: &mut Player,
+    audited: &mut Audited,
+) -> Result<(), Refusal> {
     let mut lowest_false = None;
     for at in 0..tail {
-        if lowest_false.is_none() && !as_played(log, at, &player, &audited.committed) {
+        if lowest_false.is_none() && !as_played(log, at, player, &audited.committed) {
             lowest_false = Some(at);
         }
         match player.step(at) {
@@ -59,7 +70,6 @@ fn play_all(
             Step::Waits => return refuse(WAITING),
         }
         audited.record.position = at as u64 + 1;
-        audited.record.count = player.count as u64;
     }
     lowest_false.map_or(Ok(()), |at| refuse_at(FALSE_RECORD, at))
 }
@@ -80,10 +90,9 @@ fn as_played(log: &[u8], at: usize, player: &Player, committed: &[bool]) -> bool
 /// The cells that a true checkpoint has (11.4).
 fn checkpoint_as_played(slot: Slot, player: &Player) -> bool {
     let object = slot.header(0).object;
-    slot.item_count() == player.index.written(object)
+    slot.item_count() == player.added_of(object)
         && slot.saved().all(|saved| {
-            player.index.find(object, saved.key).is_some_and(|place| {
-                let row = row(player.table, place);
+            player.row(object, saved.key).is_some_and(|row| {
                 let value = (!saved.removed()).then_some(saved.value);
                 row.held() == value && row.version == saved.version()
             })

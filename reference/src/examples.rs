@@ -112,7 +112,7 @@ fn checkpoints() -> Vec<Request> {
         checkpoint_of(
             4,
             3,
-            &[Row::of(4, 3, Some(5), 2), Row::of(4, 1, Some(6), 2)],
+            &[Row::of(4, 1, Some(6), 2), Row::of(4, 3, Some(5), 2)],
         ),
         commit(31, &[read(4, 3, 2)]),
         checkpoint_of(

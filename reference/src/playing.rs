@@ -3,6 +3,7 @@
 //! those with openings at a checkpoint and audits.
 
 pub mod histories;
+pub mod order;
 pub mod outcomes;
 pub mod refusals;
 pub mod rooms;
@@ -106,6 +107,7 @@ pub fn named() -> Vec<Case> {
     cases.extend(outcomes::cases());
     cases.extend(rooms::cases());
     cases.extend(tables::cases());
+    cases.extend(order::cases());
     cases.extend(refusals::cases());
     cases
 }
@@ -263,6 +265,11 @@ impl Asking {
     /// The row that the table has at a place when all requests have been made.
     pub fn row(&mut self, place: usize, object: u32, key: u32, value: Option<u32>, version: u64) {
         put_row(&mut self.left, place, Row::of(object, key, value, version));
+    }
+
+    /// A row that is there as it was given, at another place.
+    pub fn moved(&mut self, place: usize, row: Row) {
+        put_row(&mut self.left, place, row);
     }
 
     pub fn case(self) -> Case {

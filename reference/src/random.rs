@@ -84,10 +84,12 @@ pub struct Mix {
     pub open: usize,
     /// Transaction numbers are multiples of it.
     pub stride: u32,
-    /// Chances in percent: a read has an old version, a decision or checkpoint is false, a request is broken.
+    /// Chances in percent: a read has an old version, a decision or checkpoint is false, a checkpoint's table is out of order, a
+    /// request is broken.
     pub stale: u64,
     pub false_decisions: u64,
     pub false_checkpoints: u64,
+    pub disorder: u64,
     pub broken: u64,
 }
 
@@ -102,6 +104,7 @@ impl Mix {
             stale: 15,
             false_decisions: 0,
             false_checkpoints: 0,
+            disorder: 0,
             broken: 0,
         }
     }
@@ -112,6 +115,7 @@ impl Mix {
             stale: 25,
             false_decisions: 10,
             false_checkpoints: 10,
+            disorder: 5,
             broken: 12,
             ..Mix::true_records()
         }
@@ -318,6 +322,9 @@ impl History {
         if self.random.percent(10) {
             self.repeat(&mut rows);
         }
+        if self.mix.disorder == 0 || !self.random.percent(self.mix.disorder) {
+            put_in_order(&mut rows);
+        }
         let mut table = table_of(&rows);
         let spare = self.random.below(60) as usize;
         table.resize(table.len() + spare, 0xEE);
@@ -356,7 +363,7 @@ impl History {
         }
     }
 
-    /// Repeats a cell further down with other content, which never counts; and stores a removed cell otherwise.
+    /// Repeats a cell further down with other content, and stores a removed cell otherwise.
     fn repeat(&mut self, rows: &mut Vec<Row>) {
         if let Some(first) = self.random.pick(&rows.clone()) {
             rows.push(Row {
@@ -370,6 +377,12 @@ impl History {
             row.value = self.random.below(100) as u32;
         }
     }
+}
+
+/// The rows as a table has them: ascending, the first of each cell.
+pub fn put_in_order(rows: &mut Vec<Row>) {
+    rows.sort_by_key(|row| (row.object, row.key));
+    rows.dedup_by_key(|row| (row.object, row.key));
 }
 
 /// Breaks one argument of a request.

@@ -7,7 +7,7 @@ use crate::earlier::Earlier;
 use crate::log::{below, pass};
 use crate::objects::{has, is_cell, set_of};
 use crate::slot::{slot_at, Kind, Slot, Write, COMMIT, PUT};
-use crate::table::{capacity, put_row, row, rows, Cell, Index, Row};
+use crate::table::{capacity, in_order, put_row, row, search, Cell, Index, Row};
 
 /// The part of a replica that is not its table.
 #[derive(Clone, Copy, Debug, PartialEq, Eq)]
@@ -25,7 +25,9 @@ pub fn version_at(at: usize) -> u64 {
 /// 10 where no tail is given (7.9).
 pub fn replica_good(record: &Record, table: &[u8]) -> Result<(), Refusal> {
     refuse_if(
-        record.hosted == 0 || record.count > capacity(table) as u64,
+        record.hosted == 0
+            || record.count > capacity(table) as u64
+            || !in_order(table, record.count as usize),
         BAD_REPLICA,
     )
 }
@@ -107,7 +109,8 @@ fn play_to(
     let earlier = pass(log, tail)?;
     replica_good_at(record, table, tail)?;
     refuse_if(stop > tail as u64 || stop < record.position, BAD_REQUEST)?;
-    let mut player = Player::new(log, &earlier, record, table);
+    let entries = (stop - record.position) as usize;
+    let mut player = Player::new(log, &earlier, record, table, entries);
     let mut answer = Ok(());
     while answer.is_ok() && record.position < stop {
         match player.step(record.position as usize) {
@@ -117,6 +120,7 @@ fn play_to(
         }
     }
     record.count = player.count as u64;
+    player.settle();
     answer
 }
 
@@ -132,28 +136,29 @@ pub enum Step {
     LacksRoom,
 }
 
-/// Plays the entries of a checked log, one at a time, over a table.
+/// Plays the entries of a checked log, one at a time, over a table. Rows that it adds are in order of first writing until `settle`.
 pub struct Player<'a> {
     log: &'a [u8],
     earlier: &'a Earlier,
     hosted: u8,
-    pub table: &'a mut [u8],
+    table: &'a mut [u8],
     pub count: usize,
-    pub index: Index,
+    index: Index,
     /// Room for the updates of one commit record.
     updates: Vec<usize>,
 }
 
 impl<'a> Player<'a> {
-    /// For a record that is no bad replica.
+    /// For a record that is no bad replica, and so many entries.
     pub fn new(
         log: &'a [u8],
         earlier: &'a Earlier,
         record: &Record,
         table: &'a mut [u8],
+        entries: usize,
     ) -> Player<'a> {
         let count = record.count as usize;
-        let index = Index::of(table, count);
+        let index = Index::of(table, count, entries);
         Player {
             log,
             earlier,
@@ -211,9 +216,26 @@ impl<'a> Player<'a> {
     }
 
     fn version(&self, object: u32, key: u32) -> u64 {
-        self.index
-            .find(object, key)
-            .map_or(0, |place| row(self.table, place).version)
+        self.row(object, key).map_or(0, |row| row.version)
+    }
+
+    fn find(&self, object: u32, key: u32) -> Option<usize> {
+        self.index.find(self.table, object, key)
+    }
+
+    /// The row of a listed cell.
+    pub fn row(&self, object: u32, key: u32) -> Option<Row> {
+        self.find(object, key).map(|place| row(self.table, place))
+    }
+
+    /// How many cells of a listed object have got a row.
+    pub fn added_of(&self, object: u32) -> usize {
+        self.index.added_of(object)
+    }
+
+    /// Puts the table in order, as every answer that leaves one played does (9.11, 11.2, 11.5).
+    pub fn settle(self) {
+        self.index.settle(self.table);
     }
 
     /// Applies the hosted writes of these updates with the version of `at`, all of them or none for want of room.
@@ -234,7 +256,7 @@ impl<'a> Player<'a> {
 
     /// One write (7.10); where its cell has no row, there is room for one.
     fn write(&mut self, write: Write, version: u64) {
-        let place = match self.index.find(write.object, write.key) {
+        let place = match self.find(write.object, write.key) {
             Some(place) => place,
             None => self.add(write.object, write.key),
         };
@@ -243,7 +265,7 @@ impl<'a> Player<'a> {
         put_row(self.table, place, row);
     }
 
-    /// A new row, after the counted ones.
+    /// A new row, for now after the counted ones.
     fn add(&mut self, object: u32, key: u32) -> usize {
         let place = self.count;
         self.index.add(object, key, place);
@@ -268,7 +290,7 @@ impl<'a> Player<'a> {
             .flat_map(|&update| slot_at(self.log, update).writes())
             .filter(|write| has(self.hosted, write.object))
             .map(|write| (write.object, write.key))
-            .filter(|&(object, key)| self.index.find(object, key).is_none())
+            .filter(|&(object, key)| self.find(object, key).is_none())
             .collect();
         cells.sort_unstable();
         cells.dedup();
@@ -287,10 +309,8 @@ fn cell_of(record: &Record, table: &[u8], object: u32, key: u32) -> Result<Cell,
         !is_cell(object, key) || !has(record.hosted, object),
         BAD_REQUEST,
     )?;
-    let first =
-        rows(table, record.count as usize).find(|row| (row.object, row.key) == (object, key));
-    Ok(match first {
-        None => Cell::NeverWritten,
-        Some(row) => Cell::of(row.held(), row.version),
-    })
+    let found = search(table, record.count as usize, object, key);
+    Ok(found
+        .map(|place| row(table, place))
+        .map_or(Cell::NeverWritten, |row| Cell::of(row.held(), row.version)))
 }

@@ -10,7 +10,7 @@ use crate::table::{rows, CELL};
 pub const LONGEST_INPUT: usize = 65_536;
 pub const TABLE_CELLS: usize = 2_730;
 
-/// What `playlog` prints (15.1). The audit's scratch is left as played to the tail, which is the play of
+/// What `playlog` prints (15.1). The audit's scratch is left as played to the tail, which is the play of all.
 pub fn playlog(input: &[u8]) -> String {
     // too long (15.2)
     if input.len() > LONGEST_INPUT {
@@ -48,12 +48,10 @@ fn outcomes(log: &[u8], tail: usize, audited: &Audited) -> String {
     text
 }
 
-/// The lines of cells (15.4).
+/// The lines of cells (15.4), which the table has in order.
 fn cells(table: &[u8], audited: &Audited) -> String {
-    let mut sorted: Vec<_> = rows(table, audited.record.count as usize).collect();
-    sorted.sort_by_key(|row| (row.object, row.key));
     let mut text = String::from("object key value version\n");
-    for row in sorted {
+    for row in rows(table, audited.record.count as usize) {
         let value = row
             .held()
             .map_or("-".to_string(), |value| value.to_string());

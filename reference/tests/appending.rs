@@ -116,7 +116,7 @@ fn only_the_slot_at_the_tail_is_written() {
                     table,
                     object,
                 } => {
-                    let cells = first_cells(table, record.count, u64::from(*object));
+                    let cells = cells_of(table, record.count, u64::from(*object));
                     (Kind::Checkpoint, saved_items(&cells))
                 }
             };
@@ -287,10 +287,15 @@ impl Judge {
         if record.hosted == 0 || record.count > rows || record.position > self.tail {
             return 10;
         }
+        let cells: Vec<u64> = table.chunks_exact(24).map(|row| get(row, 0, 8)).collect();
+        let counted = &cells[..record.count as usize];
+        if counted.windows(2).any(|pair| pair[0] >= pair[1]) {
+            return 10;
+        }
         if !(1..=8).contains(&object) || record.hosted >> (object - 1) & 1 == 0 {
             return 3;
         }
-        let cells = first_cells(table, record.count, object);
+        let cells = cells_of(table, record.count, object);
         let good = |(key, held): (&u64, &[u64; 3])| {
             is_cell(object, *key) && held[2] >= 1 && held[2] <= self.tail
         };
@@ -306,13 +311,13 @@ impl Judge {
     }
 }
 
-/// Of an object's counted rows, the first of each key: its value and present fields and its version.
-fn first_cells(table: &[u8], count: u64, object: u64) -> BTreeMap<u64, [u64; 3]> {
+/// An object's counted rows by key: value and present fields and version.
+fn cells_of(table: &[u8], count: u64, object: u64) -> BTreeMap<u64, [u64; 3]> {
     let mut cells = BTreeMap::new();
     for row in table.chunks_exact(24).take(count as usize) {
         if get(row, 0, 4) == object {
             let held = [get(row, 8, 4), get(row, 12, 4), get(row, 16, 8)];
-            cells.entry(get(row, 4, 4)).or_insert(held);
+            cells.insert(get(row, 4, 4), held);
         }
     }
     cells

@@ -93,7 +93,7 @@ impl<'a> Taker<'a> {
 fn stdin_reads_back_within_its_bounds() {
     let cases = auditing();
     let (bytes, text) = (input(&cases), output(&cases));
-    assert!(bytes.len() < 240_000 && text.len() < 1_000_000);
+    assert!(bytes.len() < 224_000 && text.len() < 1_000_000);
     let mut taker = Taker(&bytes);
     for case in &cases {
         assert_eq!(taker.counted(), case.log);

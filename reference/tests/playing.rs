@@ -110,7 +110,8 @@ impl<'a> Taker<'a> {
 fn stdin_reads_back_within_its_bounds() {
     let cases = playing();
     let (bytes, text) = (input(&cases), output(&cases));
-    assert!(bytes.len() < 240_000 && text.len() < 1_000_000);
+    // With those of auditing in one file, below 480,000.
+    assert!(bytes.len() < 256_000 && text.len() < 1_000_000);
     let mut taker = Taker(&bytes);
     for case in &cases {
         assert_eq!(taker.counted(), case.log);
@@ -137,10 +138,13 @@ fn plainly(case: &Case, tail: usize, given: Record, table: &mut [u8], stop: u64)
     if given.hosted == 0 || given.count > room as u64 || given.position > tail as u64 {
         return (10, left);
     }
+    let mut rows: Vec<Row> = (0..given.count as usize).map(|at| row(table, at)).collect();
+    if rows.windows(2).any(|pair| cell(&pair[0]) >= cell(&pair[1])) {
+        return (10, left);
+    }
     if stop < given.position || stop > tail as u64 {
         return (3, left);
     }
-    let mut rows: Vec<Row> = (0..given.count as usize).map(|at| row(table, at)).collect();
     let mut number = 0;
     for at in given.position as usize..stop as usize {
         let Some(writes) = due(case, tail, given.hosted, at, &rows) else {
@@ -159,6 +163,7 @@ fn plainly(case: &Case, tail: usize, given: Record, table: &mut [u8], stop: u64)
                 None => after.push(made),
             }
         }
+        after.sort_by_key(cell);
         if after.len() > room && after.len() > rows.len() {
             number = 13;
             break;
@@ -171,6 +176,10 @@ fn plainly(case: &Case, tail: usize, given: Record, table: &mut [u8], stop: u64)
     }
     left.count = rows.len() as u64;
     (number, left)
+}
+
+fn cell(row: &Row) -> (u32, u32) {
+    (row.object, row.key)
 }
 
 fn place(rows: &[Row], object: u32, key: u32) -> Option<usize> {

@@ -272,15 +272,19 @@ fn checkpoint_cells() {
     with(&[Row::of(2, 7, Some(1), 2)], refused(3));
     with(&[Row::of(2, 7, None, 1 << 63 | 1)], refused(3));
     with(&[Row::of(2, 500, Some(1), 1)], refused(3));
-    // Rows of other objects, later rows of a cell and rows past the count are not judged.
+    // Rows of other objects are judged by their order alone, and rows past the count not at all.
     with(&[Row::of(3, 500, Some(1), 9)], Done(2));
     with(
-        &[Row::of(2, 7, Some(1), 1), Row::of(2, 7, Some(1), 9)],
-        Done(2),
+        &[Row::of(2, 7, Some(1), 1), Row::of(2, 7, Some(1), 1)],
+        refused(10),
     );
     with(
-        &[Row::of(2, 7, Some(1), 9), Row::of(2, 7, Some(1), 1)],
-        refused(3),
+        &[Row::of(2, 7, Some(1), 9), Row::of(2, 6, Some(1), 1)],
+        refused(10),
+    );
+    with(
+        &[Row::of(3, 500, Some(1), 9), Row::of(2, 7, Some(1), 1)],
+        refused(10),
     );
     let past = Request::Checkpoint {
         record: record(2, 1, 0),
@@ -288,20 +292,16 @@ fn checkpoint_cells() {
         object: 2,
     };
     appends(&log, 1, &past, Done(2));
-    // Twelve cells with one of them twice are twelve.
-    let mut rows: Vec<Row> = (0..12).map(|key| Row::of(2, key, Some(1), 1)).collect();
-    rows.push(rows[3]);
-    with(&rows, Done(2));
 }
 
 #[test]
 fn a_checkpoint_reads_back_in_key_order() {
     let mut log = with_room(&[update(0, &[put(2, 7, 1), put(2, 3, 2)])], 1);
     let rows = [
+        Row::of(1, 1, Some(9), 1),
+        Row::of(2, 3, Some(2), 1),
         Row::of(2, 7, Some(1), 1),
         Row::of(5, 1, Some(9), 1),
-        Row::of(2, 3, Some(2), 1),
-        Row::of(2, 7, Some(8), 1),
     ];
     let request = checkpoint_of(2, 1, &rows);
     assert_eq!(append::request(&mut log, 1, &request), Done(2));
@@ -339,6 +339,13 @@ fn play_order() {
         record(2, 0, u64::MAX),
     ] {
         assert_eq!(plays(&log, 4, bad, 1, 9), (refused(10), bad));
+    }
+    // Two rows of the same bytes do not ascend: after 1 and 2, before 3, also where nothing is to be played.
+    let twice = record(2, 1, 2);
+    assert_eq!(plays(&broken, 5, twice, 2, 9), (refused(1), twice));
+    assert_eq!(plays(&broken, 4, twice, 2, 9), (refused_at(2, 1), twice));
+    for stop in [0, 1, 4, 9] {
+        assert_eq!(plays(&log, 4, twice, 2, stop), (refused(10), twice));
     }
     let later = record(0x10, 3, 0);
     assert_eq!(plays(&log, 4, later, 0, 5), (refused(3), later));
@@ -405,6 +412,10 @@ fn cell_reading_order() {
     assert_eq!(reads(far, 3, 7), Done(Cell::Removed { version: 0 }));
     assert_eq!(reads(far, 8, 0), Done(Cell::NeverWritten));
     assert_eq!(reads(record(2, 0, 0), 2, 7), Done(Cell::NeverWritten));
+    // Rows that descend: 10 before 3, up to the count alone.
+    let table = table_of(&[Row::of(3, 7, Some(1), 1), Row::of(2, 7, Some(1), 1)]);
+    assert_eq!(read_cell(&record(2, 0, 2), &table, 9, 9), refused(10));
+    assert_eq!(read_cell(&record(2, 0, 1), &table, 9, 9), refused(3));
 }
 
 #[test]

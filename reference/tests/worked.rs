@@ -346,25 +346,153 @@ fn absolute_offset_0_is_an_entry() {
 
 // Sentences that the worked logs do not reach.
 
+/// What every call that takes a record with a table answers on these counted rows; nothing is changed.
+fn refused_by_order(rows: &[Row], count: u64) -> [u32; 3] {
+    let log = with_room(&[update(0, &[put(2, 7, 9)])], 1);
+    let mut table = table_of(rows);
+    table.extend([0xAA; CELL]);
+    let given = table.clone();
+    let record = Record {
+        hosted: 0b10,
+        position: 1,
+        count,
+    };
+    let (played, left) = play(&log, 1, record, &mut table, 1);
+    assert_eq!((left, &table), (record, &given));
+    let mut after = log.clone();
+    let appended = append::checkpoint(&mut after, 1, &record, &table, 2);
+    assert!(appended.is_done() || after == log);
+    let read = read_cell(&record, &table, 2, 3);
+    [played.number(), appended.number(), read.number()]
+}
+
+fn with_room(requests: &[Request], free: usize) -> Vec<u8> {
+    let mut log = log_of(requests);
+    log.resize(log.len() + free * SLOT, 0);
+    log
+}
+
 #[test]
 fn a_table_with_a_cell_twice() {
     let rows = [
         Row::of(2, 7, Some(1), 1),
-        Row::of(2, 7, Some(2), 2),
+        Row::of(2, 7, Some(2), 1),
         Row::of(9, 7, Some(3), 3),
     ];
-    let mut table = table_of(&rows);
+    assert_eq!(refused_by_order(&rows, 3), [10; 3]);
+    assert_eq!(refused_by_order(&rows, 2), [10; 3]);
+    assert_eq!(refused_by_order(&rows, 1), [0; 3]);
+    let same = [Row::of(2, 3, Some(1), 1), Row::of(2, 3, Some(1), 1)];
+    assert_eq!(refused_by_order(&same, 2), [10; 3]);
+}
+
+#[test]
+fn counted_rows_ascend_strictly() {
+    let rows = [Row::of(2, 9, Some(1), 1), Row::of(2, 3, Some(1), 1)];
+    assert_eq!(refused_by_order(&rows, 2), [10; 3]);
+    assert_eq!(refused_by_order(&rows, 1), [0; 3]);
+    assert_eq!(refused_by_order(&rows, 0), [0; 3]);
+    // Rows of other objects too, whatever they name.
+    let other = [Row::of(99, 0, Some(1), 1), Row::of(2, 9, Some(1), 1)];
+    assert_eq!(refused_by_order(&other, 2), [10; 3]);
+    let between = [
+        Row::of(1, 5, Some(1), 1),
+        Row::of(2, 9, Some(1), 1),
+        Row::of(99, 0, Some(1), 1),
+        Row::of(0x8000_0002, 0, Some(1), 1),
+        Row::of(0x8000_0002, u32::MAX, Some(1), 1),
+    ];
+    assert_eq!(refused_by_order(&between, 5), [0; 3]);
+}
+
+/// Puts (5, 1) and (2, 9), puts (2, 3), removes (2, 9).
+fn three_updates() -> Vec<u8> {
+    log_of(&[
+        update(0, &[put(5, 1, 6), put(2, 9, 4)]),
+        update(0, &[put(2, 3, 5)]),
+        update(0, &[remove(2, 9)]),
+    ])
+}
+
+#[test]
+fn rows_ascend_by_object_then_key() {
+    let log = three_updates();
+    let mut table = vec![7; 4 * CELL];
+    let fresh = open_fresh(18).done().unwrap();
+    let (answer, record) = play(&log, 3, fresh, &mut table, 3);
+    assert_eq!((answer, record.count), (Done(()), 3));
+    let expected = [
+        0, 0, 0, 2, 0, 0, 0, 3, 0, 0, 0, 5, 0, 0, 0, 1, 0, 0, 0, 0, 0, 0, 0, 2, //
+        0, 0, 0, 2, 0, 0, 0, 9, 0, 0, 0, 0, 0, 0, 0, 0, 0, 0, 0, 0, 0, 0, 0, 3, //
+        0, 0, 0, 5, 0, 0, 0, 1, 0, 0, 0, 6, 0, 0, 0, 1, 0, 0, 0, 0, 0, 0, 0, 1, //
+        7, 7, 7, 7, 7, 7, 7, 7, 7, 7, 7, 7, 7, 7, 7, 7, 7, 7, 7, 7, 7, 7, 7, 7,
+    ];
+    assert_eq!(table, expected);
+    // The audit's scratch likewise.
+    let mut scratch = vec![7; 4 * CELL];
+    assert_eq!(audit(&log, 3, &mut scratch).0, Done(()));
+    assert_eq!(scratch, expected);
+    // Without room for the third cell.
+    for audited in [false, true] {
+        let mut table = vec![7; 2 * CELL];
+        let (answer, left) = match audited {
+            true => audit(&log, 3, &mut table),
+            false => play(&log, 3, fresh, &mut table, 3),
+        };
+        assert_eq!(answer.number(), 13);
+        assert_eq!((left.position, left.count), (1, 2));
+        let rows = [Row::of(2, 9, Some(4), 1), Row::of(5, 1, Some(6), 1)];
+        assert_eq!(table, table_of(&rows));
+    }
+}
+
+#[test]
+fn a_row_that_is_not_written_moves_whole() {
+    let log = log_of(&[update(0, &[put(2, 7, 1)])]);
+    let other = Row {
+        object: 3,
+        key: 1,
+        value: 77,
+        present: 9,
+        version: 1 << 63,
+    };
+    let mut table = table_of(&[other, other]);
     let record = Record {
         hosted: 0b10,
         position: 0,
-        count: 3,
+        count: 1,
     };
-    assert_eq!(read_cell(&record, &table, 2, 7), holds(1, 1));
-    let log = log_of(&[update(0, &[put(2, 7, 9), put(2, 7, 8)])]);
-    let (answer, record) = play(&log, 1, record, &mut table, 1);
-    assert_eq!((answer, record.count), (Done(()), 3));
-    assert_eq!(row(&table, 0), Row::of(2, 7, Some(8), 1));
-    assert_eq!(table[CELL..], table_of(&rows[1..]));
+    let (answer, left) = play(&log, 1, record, &mut table, 1);
+    assert_eq!((answer, left.count), (Done(()), 2));
+    assert_eq!(table, table_of(&[Row::of(2, 7, Some(1), 1), other]));
+}
+
+/// Rows of no cell before, between and after those of the replica, in a table with many of them.
+#[test]
+fn a_table_of_70_000_other_rows() {
+    let mut rows: Vec<Row> = (0..30_000)
+        .map(|place| Row::of(0, 3 * place, Some(place), 9))
+        .collect();
+    rows.extend((0..10_000).map(|place| Row::of(2, 500 + 7 * place, Some(place), 9)));
+    rows.extend((0..30_000).map(|place| Row::of(0x8000_0000 + place, place, None, 9)));
+    let writes = [put(2, 499, 1), put(8, 0, 2), put(1, 0, 3), put(2, 0, 4)];
+    let log = log_of(&[update(0, &writes), update(0, &[put(3, 3, 3)])]);
+    let mut table = table_of(&rows);
+    table.resize(table.len() + 4 * CELL + 5, 0xAA);
+    let record = Record {
+        hosted: 0xFF,
+        position: 0,
+        count: 70_000,
+    };
+    let (answer, left) = play(&log, 2, record, &mut table, 2);
+    assert_eq!(answer, refused(13));
+    assert_eq!((left.position, left.count), (1, 70_004));
+    let new = writes.map(|write| Row::of(write.object, write.key, Some(write.value), 1));
+    rows.extend(new);
+    rows.sort_by_key(|row| (row.object, row.key));
+    assert_eq!(table[..70_004 * CELL], table_of(&rows));
+    assert_eq!(table[70_004 * CELL..], [0xAA; 5]);
+    assert_eq!(read_cell(&left, &table, 8, 0), holds(2, 1));
 }
 
 #[test]

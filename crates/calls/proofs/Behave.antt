@@ -37,7 +37,7 @@ module _ (a : Appends) where
       ap (λ (l : Lent). model.audit depots (inLog l) (scratch c) .answer) (whole-left a)
       ∙ ap (λ (x : model.Left). x .answer) (sym (audit-promise (lastLog a) c)) ∙ d
 
-  opened-so : (k : Kept) → Opens a k → (o : Opening) × (opened depots h o ≡ some (carry k))
+  pub opened-so : (k : Kept) → Opens a k → (o : Opening) × (opened depots h o ≡ some (carry k))
   opened-so k (fresh c r table e) = (model-histories.fresh (c .given .0) table, ap (ifFresh table) (sym (fresh-promise c) ∙ ap openedIn e))
   opened-so k (atCheckpoint n c e) = (
     model-histories.atCheckpoint n (c .call .given .1 .1 .0) (denote.Ref.now (c .call .given .1 .1 .1 .0)),
@@ -46,10 +46,10 @@ module _ (a : Appends) where
         ∙ ap (λ x. model-histories.ifDone (checkedIn x) (carried (openLeft c))) e,
   )
 
-  abbrev playOf : (k : Kept) → PlayCall a k → Play
+  abbrev pub playOf : (k : Kept) → PlayCall a k → Play
   playOf k p = record { stoodAfter = p .stoodAfter; stop = stopOf (p .on) }
 
-  played-so : (k : Kept) (p : PlayCall a k) → played depots h (carry k) (playOf k p) ≡ playLeft (p .on)
+  pub played-so : (k : Kept) (p : PlayCall a k) → played depots h (carry k) (playOf k p) ≡ playLeft (p .on)
   played-so k p =
       ap (λ (l : Lent). playOn depots l (carry k) (stopOf (p .on))) (stood-left a (p .stoodAfter)) ∙ sym (play-promise (logAfter a (p .stoodAfter)) k (p .on))
 

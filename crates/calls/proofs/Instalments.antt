@@ -2,11 +2,11 @@
 -- goes on as the whole one does. The table's bytes after the first are read back as its cells, since all of them fit their fields.
 use Prim.Native.Nat.{ℕ, zero, suc, _+_, _-_, _/_, _≤_, _<_}
 use mathlib.Core.Path.{_≡_, refl, ap, sym, _∙_, subst}
-use mathlib.Core.Bool.{Bool, true, false, cond}
+use mathlib.Core.Bool.{Bool, true, false, cond, not}
 use mathlib.Core.List.{List, [], _∷_, _++_}
 use mathlib.Core.Option.{Option, none, some}
 use native.Mathlib.Omega.{arith}
-use borrow.Author.Tests.{ltb-false, le-ltb}
+use borrow.Author.Tests.{ltb-false, le-ltb, not-false}
 use lib.Dec.{eqb, leb}
 use lib.ListN.{length}
 use Rattle.lists.specs.Tests.{ands, ors, neither}
@@ -15,7 +15,7 @@ use Rattle.model.specs.Objects.{depots, hosted}
 use Rattle.model.specs.Entries.{Write, Entry, plain, numbered, commit, decision, checkpoint, blank, effect, Log, writesOf, headerObjects}
 use Rattle.model.specs.Slot.{logIn, mostSlots}
 use Rattle.model.specs.Rules.{okWrite, okWrites, okEntry, lowestBad}
-use Rattle.model.specs.Table.{Cell, cellsOf, tableWith, capacity, apply, cellSize}
+use Rattle.model.specs.Table.{Cell, cellsOf, tableWith, capacity, apply, cellSize, inOrder}
 use Rattle.model.specs.Play.{Played, going, waits, lacks, cellsIn, versionAt, outcome, make, finish, act, step, andThen, play}
 use Rattle.model.specs.Answers.{Refusal, done, refuse, frameAndEntries, badFrame as model-badFrame}
 use Rattle.model.specs.Append.{Replica, badReplica}
@@ -36,8 +36,9 @@ use Rattle.claims.proofs.Audits.{tail-small}
 use Rattle.claims.proofs.Reached.{play-on, standsAt, Reached, play-reached}
 use Rattle.codec.specs.Eight.{badFrame, inLog}
 use Rattle.table.specs.Stored.{table-again}
-use Rattle.player.specs.MakeLaws.{apply-fits}
+use Rattle.claims.proofs.Cells.{apply-fits}
 use Rattle.player.specs.PlayLaws.{step-grows}
+use Rattle.laws.proofs.Plays.{ordered-play}
 
 module _ (log : Log) (set : List ℕ) (room : ℕ) where
   abbrev go-on : ℕ → List Cell → ℕ → Played
@@ -49,7 +50,7 @@ module _ (log : Log) (set : List ℕ) (room : ℕ) where
   play-grows p cs (suc n) = go (go-on p cs n) (play-grows p cs n)
     where
       go : (x : Played) → length cs ≤ length (cellsIn x) → length cs ≤ length (cellsIn (andThen x (step depots log set room (p + n))))
-      go (going ds) h = omega (arith, h, step-grows log set room (p + n) ds)
+      go (going ds) h = omega (arith, h, step-grows depots log set room (p + n) ds)
       go (waits q ds) h = h
       go (lacks q ds) h = h
 
@@ -64,7 +65,7 @@ module _ (log : Log) (set : List ℕ) (room : ℕ) where
         made ws ok = by (leb (length (apply set (versionAt p) ws cs)) room)
           where
             by : (b : Bool) → all fitsCell (cellsIn (cond b (going (apply set (versionAt p) ws cs)) (lacks p cs))) ≡ true
-            by true = apply-fits set (versionAt p) (omega arith) ws ok cs f
+            by true = apply-fits depots refl set (versionAt p) (omega arith) ws cs ok f
             by false = f
 
         tried : (ws : List Write) → all (okWrite depots) ws ≡ true → (o : Option Bool) → all fitsCell (cellsIn (finish set room p ws cs o)) ≡ true
@@ -170,6 +171,9 @@ module _ (log : Log) where
       fit = play-fit log set (capacity t) (good-kept depots log g) (tail-small depots log f) (r .position) (cellsOf t (r .count)) (a - r .position)
           (omega (arith, on)) (cells-fit t bytes (r .count))
 
+      ordered : inOrder cells ≡ true
+      ordered = ordered-play depots log set (capacity t) (r .position) (cellsOf t (r .count)) (a - r .position) (not-false (inOrder (cellsOf t (r .count))) (search ors))
+
       -- the second play goes on from there
       second : model.playFrom depots log next (tableWith t cells) b ≡ play depots log set (capacity t) at cells (b - at)
       second =
@@ -192,7 +196,8 @@ module _ (log : Log) where
       next-fits =
           let n : length cells ≤ capacity (tableWith t cells) = omega (arith, few, size) in
           let some-set : eqb (r .hosting) 0 ≡ false = search ors in
-          neither (neither some-set (le-ltb (capacity (tableWith t cells)) (length cells) n)) (le-ltb (log .tail) at (omega (arith, before)))
+          let order : not (inOrder (cellsOf (tableWith t cells) (length cells))) ≡ false = ap (λ (cs : List Cell). not (inOrder cs)) (cells-back t cells fit) ∙ ap not ordered in
+          neither (neither (neither some-set (le-ltb (capacity (tableWith t cells)) (length cells) n)) order) (le-ltb (log .tail) at (omega (arith, before)))
 
       next-stop : model.badStop (log .tail) next b ≡ false
       next-stop = neither (le-ltb (log .tail) b m) (le-ltb b at (omega (arith, before)))

@@ -7,3 +7,4 @@ pub mod Audits
 pub mod Openings
 pub mod Behave
 pub mod Instalments
+pub mod Order

@@ -16,7 +16,7 @@ use Rattle.model.specs.Objects.{Shape, isObject, hosted}
 use Rattle.model.specs.Entries.{Write, Condition, Commit, commit, Log, commitAt, writesOf, closed, decided, isNone}
 use Rattle.model.specs.Slot.{writeAt, readAt, logIn, okShape}
 use Rattle.model.specs.Rules.{fits, okWrites, narrow, okReads, okSaved, okOutcome, okNumber, lowestBad}
-use Rattle.model.specs.Table.{Cell, cellsOf, capacity}
+use Rattle.model.specs.Table.{Cell, cellsOf, inOrder, capacity}
 use Rattle.model.specs.Answers.{Refusal, refuse, refuseAt, firstOf, slots, badFrame, frameAndEntries}
 use Rattle.model.specs.Append.{Replica, Request, update, commits, decides, saves, writesGiven, conditionGiven, savedGiven, notWhole, badReplica, ifNumbered, ownTests, appendRefusal}
 use Rattle.model.specs.Histories.{Lent, inLog, isRefused, Accepted}
@@ -27,7 +27,7 @@ use Rattle.laws.proofs.Sizes.{layout, slots-fit, slots-free}
 use Rattle.laws.proofs.Refusals.{AllPass, all-pass, refuse-none, refuseAt-none, not-none, good-below, below-good}
 use Rattle.laws.proofs.Appends.{has-room, passed, wrote}
 use Rattle.laws.proofs.Decisions.{commit-entry}
-use Rattle.claims.proofs.Terms.{frame-words, words-frame, writes-aside, aside-writes, closed-words, words-closed, undecided-words, words-undecided}
+use Rattle.claims.proofs.Terms.{frame-words, words-frame, order-words, words-order, writes-aside, aside-writes, closed-words, words-closed, undecided-words, words-undecided}
 use Rattle.claims.proofs.Words.{whole-words, words-whole, numbered-if, if-numbered, writes-words, words-writes, narrow-words, words-narrow, reads-words, words-reads, cells-words, words-cells, keys-words, words-keys}
 
 -- ---- tests that pass
@@ -192,6 +192,7 @@ module _ (sh : Shape) (log : Log) where
       record {
         hosting = eqb-false (r .hosting) 0 (search (ors, record-ok));
         counted = ltb-false (capacity table) (r .count) (search (ors, record-ok));
+        ordered = order-words (cellsOf table (r .count)) (not-false (inOrder (cellsOf table (r .count))) (search (ors, record-ok)));
         there = omega arith;
         hosts = search (ands, given);
         each = cells-words sh (log .tail) o (cellsOf table (r .count)) (search (ands, given));
@@ -210,7 +211,8 @@ module _ (sh : Shape) (log : Log) where
 
       record-ok : badReplica (log .tail) r table ≡ false
       record-ok =
-          neither (neither (ne-eqb (r .hosting) 0 (a .hosting)) (le-ltb (capacity table) (r .count) (a .counted)))
+          neither (neither (neither (ne-eqb (r .hosting) 0 (a .hosting)) (le-ltb (capacity table) (r .count) (a .counted)))
+          (ap not (words-order cells (a .ordered))))
           (le-ltb (log .tail) (r .position) (omega (arith, a .there)))
 
       given : (isObject sh o && mem o (hosted sh (r .hosting)) && all (okSaved sh (log .tail) o) (savedGiven r table o)) ≡ true

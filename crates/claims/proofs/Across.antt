@@ -1,6 +1,6 @@
 -- A play across one commit record by a replica that hosts all objects read, on any good log and any table bytes: it decides by its
 -- own cells, so it keeps them where a read is stale, and else makes the number's hosted writes where they have room.
-use Prim.Native.Nat.{ℕ, _+_, _-_, _<_, _≤_, _^_}
+use Prim.Native.Nat.{ℕ, _+_, _-_, _<_, _≤_}
 use mathlib.Core.Path.{_≡_, refl, ap, _∙_}
 use mathlib.Core.Bool.{Bool, true, false, cond, _&&_}
 use mathlib.Core.List.{List, [], _∷_, List·Memᴰ, List·Memᴰ·head, List·Memᴰ·tail}
@@ -10,7 +10,7 @@ use native.Mathlib.Nat.{add-zero}
 use borrow.Author.Tests.{leb-false}
 use lib.Dec.{eqb, leb}
 use lib.ListN.{length}
-use Rattle.lists.specs.Tests.{and-l, and-r, clash}
+use Rattle.lists.specs.Tests.{clash}
 use Rattle.lists.specs.Sets.{all, mem, meets}
 use Rattle.model.specs.Objects.{Shape}
 use Rattle.model.specs.Entries.{Write, Read, Condition, contentOf, commit, Log, writesOf, headerObjects, commitObjects}
@@ -24,14 +24,14 @@ use Rattle.model.specs.Run.{written, madeAll}
 use Rattle.model.specs.Histories.{Lent, inLog, isRefused, Carried, playOn, hosts}
 use Rattle.model.specs.Terms.{Stale}
 use Rattle.model.specs.Claims.{Alone, tableHolds, AbortsAlone, ReplicaAborts}
-use Rattle.laws.proofs.Items.{fitsCell}
-use Rattle.laws.proofs.Tables.{length-cells, cells-back, table-back, cells-fit, all-store}
+use Rattle.laws.proofs.Tables.{length-cells, cells-back, table-back, cells-fit}
+use Rattle.laws.proofs.Ordered.{lookup-store}
 use Rattle.laws.proofs.Refusals.{below-good}
 use Rattle.laws.proofs.Appends.{good-kept}
 use Rattle.laws.proofs.Slots.{Kept, writes-ok}
 use Rattle.claims.proofs.Terms.{words-concerns, words-frame}
 use Rattle.claims.proofs.Counts.{other-object}
-use Rattle.claims.proofs.Cells.{lookup-store, apply-few, write-fitting}
+use Rattle.claims.proofs.Cells.{apply-few, apply-fits}
 use Rattle.claims.proofs.Aborts.{stale-refuses, refuses-stale}
 use Rattle.claims.proofs.Audits.{tail-small}
 use Rattle.claims.proofs.Leaves.{plays-so}
@@ -82,15 +82,6 @@ module _ (set : List ℕ) (v : ℕ) where
       go : (b : Bool) → mem o set ≡ b → lookup (apply set v ws cs) o k ≡ cond b (madeAll v ws (lookup cs) o k) (lookup cs o k)
       go true e = apply-hosted ws cs o k e
       go false e = apply-other ws cs o k e
-
-  apply-fits : (sh : Shape) → okShape sh ≡ true → v < 2 ^ 64 → (ws : List Write) (cs : List Cell) → all (okWrite sh) ws ≡ true → all fitsCell cs ≡ true → all fitsCell (apply set v ws cs) ≡ true
-  unfolding apply one
-  apply-fits sh shape small [] cs ok f = f
-  apply-fits sh shape small (w ∷ ws) cs ok f = apply-fits sh shape small ws (one w cs) (and-r (okWrite sh w) (all (okWrite sh) ws) ok) (go (mem w.object set))
-    where
-      go : (b : Bool) → all fitsCell (cond b (store cs w.object w.key (record { version = v; content = contentOf w })) cs) ≡ true
-      go true = all-store fitsCell cs (w .object) (w .key) (record { version = v; content = contentOf w }) f (write-fitting sh shape set v small w (and-l (okWrite sh w) (all (okWrite sh) ws) ok))
-      go false = f
 
 -- ---- the step at the commit record
 
@@ -161,7 +152,7 @@ module _ (sh : Shape) (shape : okShape sh ≡ true) (l : Lent) (r : Carried) (n 
           let few : l .tail ≤ mostSlots = small-tail in
           ap (λ (ds : List Cell). lookup ds o k)
           (cells-back (r .table) (apply (hosts sh r) (p + 1) ws cs)
-          (apply-fits (hosts sh r) (p + 1) sh shape (omega (arith, few, low)) ws cs ok (cells-fit (r .table) (given .bytes) (r .replica .count))))
+          (apply-fits sh shape (hosts sh r) (p + 1) (omega (arith, few, low)) ws cs ok (cells-fit (r .table) (given .bytes) (r .replica .count))))
           ∙ apply-looked (hosts sh r) (p + 1) ws cs o k
 
       current : (Stale (tableHolds r) c → ⊥) → AbortsAlone sh l r n c (out (make (hosts sh r) room p ws cs))

@@ -82,7 +82,7 @@ read-all sh cells p scratch cs fits s o k c =
     let m : mem o (ids sh) ≡ true = cell-object (sh .objects) o k c in
     let n : ltb (capacity (tableWith scratch cs)) (length cs) ≡ false = le-ltb (capacity (tableWith scratch cs)) (length cs) (rw (length-with scratch cs fits) fits) in
     let b : eqb (everything sh) 0 ≡ false = some-object sh o m (eqb (everything sh) 0) refl in
-    rw (b, n, hosts-all sh, m, c, cells-back scratch cs (shown-fits sh (ids sh) cs (s .each))) (ap done (s .reads o k m))
+    rw (b, n, hosts-all sh, m, c, cells-back scratch cs (shown-fits sh (ids sh) cs (s .each)), s .ordered) (ap done (s .reads o k m))
 
 -- ---- the three ends of an audit
 

@@ -52,7 +52,8 @@ module _ (sh : Shape) (whole : Log) (r : Carried) (good : Good sh whole r) where
   read-done : (o k : ℕ) → mem o (hosts sh r) ≡ true → isCell sh o k ≡ true → shown sh r o k ≡ done (run whole (r .replica .position) .cells o k)
   unfolding readCell
   read-done o k m c =
-      let b : badRecord (r .replica) (r .table) ≡ false = neither (some-set o m (eqb (r .replica .hosting) 0) refl) (le-ltb (capacity (r .table)) (r .replica .count) (good .fits)) in
+      let b : badRecord (r .replica) (r .table) ≡ false = neither (neither (some-set o m (eqb (r .replica .hosting) 0) refl) (le-ltb (capacity (r .table)) (r .replica .count) (good .fits)))
+      (ap not (good .inv .ordered)) in
       rw (b, m, c) (ap done (good .inv .reads o k m))
 
   read-back : (o k : ℕ) (held : Option Held) → shown sh r o k ≡ done held → run whole (r .replica .position) .cells o k ≡ held

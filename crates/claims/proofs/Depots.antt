@@ -5,12 +5,14 @@ use mathlib.Core.Bool.{true}
 use Rattle.model.specs.Objects.{depots}
 use Rattle.model.specs.Slot.{okShape}
 use Rattle.model.specs.Claims.{Demand1, Demand2, Demand3, AuditsExactly, NeverWaits, OpensAt, OpensWherever}
+use Rattle.claims.specs.Order.{SameCalls, SameAudits, LeavesInOrder}
 use Rattle.claims.proofs.Demand1.{demand1}
 use Rattle.claims.proofs.Demand2.{demand2}
 use Rattle.claims.proofs.Demand3.{demand3}
 use Rattle.claims.proofs.AuditExactly.{audits-exactly}
 use Rattle.claims.proofs.NeverWaits.{never-waits}
 use Rattle.claims.proofs.Opened.{opens-at, opens-wherever}
+use Rattle.claims.proofs.Order.{same-calls, same-audits, leaves-in-order}
 
 good-shape : okShape depots ≡ true
 good-shape = refl
@@ -35,3 +37,12 @@ opens-at-depots = opens-at depots good-shape
 
 pub opens-wherever-depots : OpensWherever depots
 opens-wherever-depots = opens-wherever depots good-shape
+
+pub same-calls-depots : SameCalls depots
+same-calls-depots = same-calls depots good-shape
+
+pub same-audits-depots : SameAudits depots
+same-audits-depots = same-audits depots good-shape
+
+pub in-order-depots : LeavesInOrder depots
+in-order-depots = leaves-in-order depots good-shape

@@ -2,18 +2,18 @@
 -- its own position leaves; or it is refused and changes nothing. The tests of a play pass exactly where nothing refuses it.
 use Prim.Native.Nat.{ℕ, _+_, _-_, _<_, _≤_}
 use mathlib.Core.Path.{_≡_, refl, ap, sym, _∙_, subst}
-use mathlib.Core.Bool.{Bool, true, false}
+use mathlib.Core.Bool.{Bool, true, false, not}
 use mathlib.Core.List.{List, [], _∷_, _++_}
 use mathlib.Core.Option.{Option, none, some}
 use native.Mathlib.Omega.{arith}
-use borrow.Author.Tests.{eqb-false, ne-eqb, ltb-false, le-ltb}
+use borrow.Author.Tests.{eqb-false, ne-eqb, ltb-false, le-ltb, not-false}
 use lib.Dec.{eqb, ltb}
 use Rattle.lists.specs.Tests.{ors, neither, clash}
 use Rattle.model.specs.Objects.{Shape}
 use Rattle.model.specs.Entries.{Log}
 use Rattle.model.specs.Slot.{logIn, okShape}
 use Rattle.model.specs.Rules.{lowestBad}
-use Rattle.model.specs.Table.{cellsOf, capacity}
+use Rattle.model.specs.Table.{cellsOf, inOrder, capacity}
 use Rattle.model.specs.Play.{Played, going, waits, lacks, cellsIn}
 use Rattle.model.specs.Answers.{Refusal, refused, refuse, refuseAt, firstOf, badFrame, frameAndEntries}
 use Rattle.model.specs.Append.{Replica, badReplica}
@@ -23,7 +23,7 @@ use Rattle.model.specs.Terms.{Fit, Playable, Ended, there, waiting, noRoom}
 use Rattle.model.specs.Claims.{Waiting, doneWith, PlayLeaves}
 use Rattle.model.specs.Worked.{code}
 use Rattle.laws.proofs.Refusals.{not-none, all-pass, refuse-none, refuseAt-none, good-below, below-good}
-use Rattle.claims.proofs.Terms.{frame-words, words-frame}
+use Rattle.claims.proofs.Terms.{frame-words, words-frame, order-words, words-order}
 use Rattle.claims.proofs.Reached.{standsAt, Reached, play-reached}
 use Rattle.claims.proofs.Waits.{play-waits, play-ends}
 use Rattle.claims.proofs.Rooms.{left-lacks}
@@ -34,18 +34,21 @@ pub fit-words : (tail : ℕ) (r : Carried) (stop : ℕ) → badReplica tail (r .
 fit-words tail r stop b s =
     let a : eqb (r .replica .hosting) 0 ≡ false = search ors in
     let c : ltb (capacity (r .table)) (r .replica .count) ≡ false = search ors in
+    let o : not (inOrder (cellsOf (r .table) (r .replica .count))) ≡ false = search ors in
     let d : ltb tail stop ≡ false = search ors in
     let e : ltb stop (r .replica .position) ≡ false = search ors in
     record {
       hosting = eqb-false (r .replica .hosting) 0 a;
       counted = ltb-false (capacity (r .table)) (r .replica .count) c;
+      ordered = order-words (cellsOf (r .table) (r .replica .count)) (not-false (inOrder (cellsOf (r .table) (r .replica .count))) o);
       onward = ltb-false stop (r .replica .position) e;
       within = ltb-false tail stop d;
     }
 
 module _ (tail : ℕ) (r : Carried) (stop : ℕ) (f : Fit tail r stop) where
   pub words-replica : badReplica tail (r .replica) (r .table) ≡ false
-  words-replica = neither (neither (ne-eqb (r .replica .hosting) 0 (f .hosting)) (le-ltb (capacity (r .table)) (r .replica .count) (f .counted)))
+  words-replica = neither (neither (neither (ne-eqb (r .replica .hosting) 0 (f .hosting)) (le-ltb (capacity (r .table)) (r .replica .count) (f .counted)))
+      (ap not (words-order (cellsOf (r .table) (r .replica .count)) (f .ordered))))
       (le-ltb tail (r .replica .position) (omega (arith, f .onward, f .within)))
 
   pub words-stop : badStop tail (r .replica) stop ≡ false
@@ -122,6 +125,7 @@ module _ (sh : Shape) (shape : okShape sh ≡ true) (l : Lent) (r : Carried) (st
       fit = record {
         hosting = p .fit .hosting;
         counted = p .fit .counted;
+        ordered = p .fit .ordered;
         onward = reached .from;
         within = omega (arith, reached .to, p .fit .onward, p .fit .within);
       };

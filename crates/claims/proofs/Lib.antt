@@ -31,4 +31,5 @@ pub mod Across
 pub mod Outcomes
 pub mod Demand1
 pub mod Demand2
+pub mod Order
 pub mod Depots

@@ -1,5 +1,5 @@
 -- A checkpoint of a log that the audit passes shows what the run's cells of its object hold: its cells are the played ones put
--- in key order, and the rules keep them ascending, so that none is there twice.
+-- in key order, and the rules keep them ascending, so that the rows are in order.
 use Prim.Native.Nat.{ℕ, suc, _+_, _*_, _/_, _%_, _<_, _≤_, _^_}
 use mathlib.Core.Path.{_≡_, refl, ap, ap₂, sym, _∙_}
 use mathlib.Core.Bool.{Bool, true, false, cond, _||_}
@@ -11,17 +11,18 @@ use Rattle.laws.proofs.Same.{same-saved}
 use Rattle.lists.specs.Tests.{and-r, ands, both, or-false, clash}
 use Rattle.lists.specs.Sets.{all, mem, ascending, first-leads, rest-ascends}
 use Rattle.model.specs.Objects.{Object, Shape, ids, isObject, isCell, hostedBy, hosted, bitOf, setOf}
-use Rattle.model.specs.Entries.{Saved, checkpoint, effect, Log, isNone}
+use Rattle.model.specs.Entries.{Saved, checkpoint, effect, Log}
 use Rattle.model.specs.Slot.{valueField, mostSlots, okShape}
 use Rattle.model.specs.Rules.{fits, okSaved, savedBefore, okEntry}
-use Rattle.model.specs.Table.{Cell, lookup, cellOf, savedOf}
+use Rattle.model.specs.Table.{Cell, lookup, cellOf, inOrder, savedOf}
 use Rattle.model.specs.Play.{cellsIn}
 use Rattle.model.specs.Terms.{savedFor}
 use Rattle.model.specs.Replica.{auditPlay, asPlayed}
 use Rattle.laws.proofs.Items.{fitsCell, cell-small}
 use Rattle.laws.proofs.Appends.{good-kept}
-use Rattle.claims.proofs.Counts.{other-key}
-use Rattle.claims.proofs.Cells.{held-cell, distinct, owned, present-fits, Shown}
+use Rattle.laws.proofs.CellOrder.{lex-key}
+use Rattle.laws.proofs.Ordered.{held-cell}
+use Rattle.claims.proofs.Cells.{owned, present-fits, Shown}
 use Rattle.claims.proofs.Saved.{saved-for}
 use Rattle.claims.proofs.Runs.{cellsAfter, run, cells-run}
 use Rattle.claims.proofs.Audits.{Sound, tail-small, audit-shows}
@@ -67,22 +68,14 @@ module _ (o : ℕ) where
   loaded-for [] k = refl
   loaded-for (c ∷ cs) k = rw (eq-eqb o o refl, held-cell o (c .key) (c .held), loaded-for cs k)
 
-  -- an ascending list has no key twice
-  absent : (k : ℕ) (c : Saved) (cs : List Saved) → k < c .key → ascending savedBefore (c ∷ cs) ≡ true → isNone (lookup (loaded o (c ∷ cs)) o k) ≡ true
-  unfolding lookup
-  absent k c [] l a = let n : c .key ≡ k → ⊥ = omega arith in rw (other-key o (c .key) o k n)
-  absent k c (d ∷ cs) l a =
-      let n : c .key ≡ k → ⊥ = omega arith in
-      let u : c .key < d .key = ltb-true (c .key) (d .key) (first-leads savedBefore c (d ∷ cs) a) in
-      rw (other-key o (c .key) o k n) (absent k d cs (omega arith) (rest-ascends savedBefore c (d ∷ cs) a))
-
-  ascending-distinct : (cs : List Saved) → ascending savedBefore cs ≡ true → distinct (loaded o cs) ≡ true
-  unfolding lookup
-  ascending-distinct [] a = refl
-  ascending-distinct (c ∷ []) a = refl
-  ascending-distinct (c ∷ d ∷ cs) a =
-      let r : ascending savedBefore (d ∷ cs) ≡ true = rest-ascends savedBefore c (d ∷ cs) a in
-      both (absent c.key d cs (ltb-true (c .key) (d .key) (first-leads savedBefore c (d ∷ cs) a)) r) (ascending-distinct (d ∷ cs) r)
+  -- ascending keys are rows in order
+  pub ascending-ordered : (cs : List Saved) → ascending savedBefore cs ≡ true → inOrder (loaded o cs) ≡ true
+  unfolding inOrder
+  ascending-ordered [] a = refl
+  ascending-ordered (c ∷ []) a = refl
+  ascending-ordered (c ∷ d ∷ cs) a =
+      both (lex-key o (c .key) o (d .key) refl (ltb-true (c .key) (d .key) (first-leads savedBefore c (d ∷ cs) a)))
+      (ascending-ordered (d ∷ cs) (rest-ascends savedBefore c (d ∷ cs) a))
 
   module _ (sh : Shape) (shape : okShape sh ≡ true) (p : ℕ) (few : p ≤ mostSlots) where
     pub loaded-owned : (cs : List Saved) → all (okSaved sh p o) cs ≡ true → all (owned sh (o ∷ [])) (loaded o cs) ≡ true
@@ -114,7 +107,7 @@ checkpoint-shows sh shape log room sound d o cs l e =
     record {
       reads = λ x i h. rw (← mem-one x o h) (there i);
       each = loaded-owned o sh shape d (omega (arith, tail-small sh log (sound .frame))) cs (search ands);
-      once = ascending-distinct o cs (search ands);
+      ordered = ascending-ordered o cs (search ands);
     }
 
 -- the object of a checkpoint is in the directory

@@ -1,27 +1,29 @@
--- The conditions in words are what the definitions' tests decide: a frame, a number's writes and commit record, a decision, the
--- objects of a commit record. Each by induction over the log's entries below a bound, or by arithmetic.
+-- The conditions in words are what the definitions' tests decide: a frame, rows in order, a number's writes and commit record, a
+-- decision, the objects of a commit record. Each by induction over the log's entries below a bound, over rows, or by arithmetic.
 use Prim.Native.Nat.{ℕ, zero, suc, _/_, _%_, _<_, _≤_}
 use mathlib.Core.Path.{_≡_, refl, ap, sym, _∙_}
 use mathlib.Core.Logic.{_⊎_, inl, inr}
 use mathlib.Core.Bool.{Bool, true, false, cond, not, _||_}
-use mathlib.Core.List.{List, [], _++_, List·Memᴰ, List·Memᴰ·append-cases, List·Memᴰ·not-nil, Memᴰ·append-left, Memᴰ·append-right}
+use mathlib.Core.List.{List, [], _∷_, _++_, List·Memᴰ, List·Memᴰ·append-cases, List·Memᴰ·not-nil, Memᴰ·append-left, Memᴰ·append-right}
 use mathlib.Core.Option.{Option, none, some}
 use native.Mathlib.Nat.{div-add-mod, mul-div-right, mul-mod-right}
 use native.Mathlib.Omega.{arith}
 use borrow.Author.Tests.{eqb-true, eqb-false, eq-eqb, ltb-false, le-ltb, not-false}
 use lib.Dec.{eqb, ltb}
 use lib.ListN.{length}
-use Rattle.lists.specs.Tests.{ors, neither, clash}
-use Rattle.lists.specs.Sets.{mem, meets, any-set}
+use Rattle.lists.specs.Tests.{and-l, and-r, ors, both, neither, clash}
+use Rattle.lists.specs.Sets.{mem, meets, ascending, any-set}
 use Rattle.lists.specs.Members.{any-in, in-any, mem-map, map-mem}
 use Rattle.model.specs.Objects.{Shape}
 use Rattle.model.specs.Entries.{Decision, Write, Entry, plain, numbered, commit, decision, checkpoint, blank, effect, Log, asideUnder, writesOf, commitIn, ifSome, closed, outcomeAfter, decided, isNone, writtenObjects, commitObjects, closesIn}
 use Rattle.model.specs.Slot.{logIn, mostSlots, okShape}
+use Rattle.model.specs.Table.{Cell, cellBefore, inOrder}
 use Rattle.model.specs.Answers.{slots, badFrame}
 use Rattle.model.specs.Histories.{Lent, inLog}
-use Rattle.model.specs.Terms.{GoodFrame, SetAside, Committed, Decided, Concerns}
+use Rattle.model.specs.Terms.{GoodFrame, InOrder, SetAside, Committed, Decided, Concerns}
 use Rattle.laws.proofs.Sizes.{layout}
 use Rattle.laws.proofs.Refusals.{not-none}
+use Rattle.laws.proofs.CellOrder.{lex-less, lex-key, lex-case}
 
 -- ---- the frame
 
@@ -47,6 +49,26 @@ words-frame sh shape l f =
     let z : length (l .bytes) % sh .layout .slotSize ≡ 0 = ap (λ (m : ℕ). m % sh .layout .slotSize) (f .whole) ∙ mul-mod-right (sh .layout .slotSize) (f .slots) in
     neither (neither (ap not (eq-eqb (length (l .bytes) % sh .layout .slotSize) 0 z)) (le-ltb mostSlots (length (l .bytes) / sh .layout .slotSize) (omega (arith, f .few))))
     (le-ltb (length (l .bytes) / sh .layout .slotSize) (l .tail) (omega (arith, f .used)))
+
+-- ---- rows in order
+
+pub order-words : (cs : List Cell) → inOrder cs ≡ true → InOrder cs
+unfolding inOrder
+order-words [] a = tt
+order-words (c ∷ []) a = tt
+order-words (c ∷ d ∷ cs) a =
+    let p : cellBefore c d ≡ true = and-l (cellBefore c d) (ascending cellBefore (d ∷ cs)) a in
+    (lex-case (c .object) (c .key) (d .object) (d .key) p (λ l. inl l) (λ e l. inr (e, l)), order-words (d ∷ cs) (and-r (cellBefore c d) (ascending cellBefore (d ∷ cs)) a))
+
+words-before : (c d : Cell) → (c .object < d .object) ⊎ ((c .object ≡ d .object) × (c .key < d .key)) → cellBefore c d ≡ true
+words-before c d (inl l) = lex-less (c .object) (c .key) (d .object) (d .key) l
+words-before c d (inr (e, l)) = lex-key (c .object) (c .key) (d .object) (d .key) e l
+
+pub words-order : (cs : List Cell) → InOrder cs → inOrder cs ≡ true
+unfolding inOrder
+words-order [] a = refl
+words-order (c ∷ []) a = refl
+words-order (c ∷ d ∷ cs) a = both (words-before c d (a .0)) (words-order (d ∷ cs) (a .1))
 
 -- ---- the writes of a number
 

@@ -1,1 +1,3 @@
 pub mod Met
+pub mod Order
+pub mod Orders

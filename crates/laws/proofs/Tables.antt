@@ -2,12 +2,12 @@
 use mathlib.Core.Path.{_≡_, refl, ap, ap₂, sym, _∙_}
 use mathlib.Core.Bool.{true, not, Bool, false, cond}
 use mathlib.Core.List.{List, [], _++_, _∷_}
-use Prim.Native.Nat.{ℕ, _+_, _*_, _^_, _≤_, _<_}
+use Prim.Native.Nat.{ℕ, _+_, _-_, _*_, _^_, _≤_, _<_}
 use native.Mathlib.Nat.{zero-add}
 use native.Mathlib.Omega.{arith}
 use lib.Dec.{ltb}
 use lib.ListN.{length, getD, take, drop, take-append-drop}
-use lib.Seq.{take-add, drop-drop}
+use lib.Seq.{take-add, drop-at, drop-drop}
 use borrow.Author.Tests.{ltb-true, lt-ltb}
 use Rattle.model.specs.Entries.{Held}
 use Rattle.lists.specs.Bytes.{beAt, beAt-lt, bytesOf, bytesOf-beAt}
@@ -16,7 +16,7 @@ use Rattle.lists.specs.Tests.{both, and-l, and-r}
 use Rattle.lists.specs.Sets.{all, all-getD}
 use Rattle.lists.specs.First.{seeking-from}
 use Rattle.lists.specs.Every.{failing, every-all}
-use Rattle.model.specs.Table.{Cell, cellAt, cellBytes, cellsOf, tableWith, cellSize, isOf, cellOf, store}
+use Rattle.model.specs.Table.{Cell, cellAt, cellBytes, cellsOf, tableWith, cellSize, isOf, cellOf, cellBefore, store}
 use Rattle.laws.proofs.Items.{fitsCell, length-cell, cell-back}
 
 pub length-cells : (table : List ℕ) (count : ℕ) → length (cellsOf table count) ≡ count
@@ -37,15 +37,30 @@ cells-back table cells h =
     cells-from (tableWith table cells) (length cells)
     ∙ values-joined cellBytes cellAt 24 fitsCell length-cell cell-back [] cells (drop (cellSize * length cells) table) 0 refl h
 
+-- cells stored twice: the second counts, if they are no fewer
+pub table-again : (t : List ℕ) (cs ds : List Cell) → length cs ≤ length ds → tableWith (tableWith t cs) ds ≡ tableWith t ds
+unfolding tableWith
+table-again t cs ds h =
+    let n : ℕ = cellSize * length ds - cellSize * length cs in
+    let e : cellSize * length ds ≡ cellSize * length cs + n = omega arith in
+    ap (λ (s : List ℕ). joined cellBytes ds ++ s)
+    (ap (λ (m : ℕ). drop m (tableWith t cs)) e
+    ∙ sym (drop-drop n (cellSize * length cs) (tableWith t cs))
+    ∙ ap (drop n) (drop-at (joined cellBytes cs) (drop (cellSize * length cs) t) (cellSize * length cs) (length-stored cs))
+    ∙ drop-drop n (cellSize * length cs) t
+    ∙ ap (λ (m : ℕ). drop m t) (sym e))
+
 -- a test that each cell passes
 pub all-store : (f : Cell → Bool) (cs : List Cell) (o k : ℕ) (h : Held) → all f cs ≡ true → f (cellOf o k h) ≡ true → all f (store cs o k h) ≡ true
 unfolding store
 all-store f [] o k h a e = both e refl
-all-store f (c ∷ cs) o k h a e = go (isOf o k c) (all-store f cs o k h (and-r (f c) (all f cs) a) e)
+all-store f (c ∷ cs) o k h a e = go (isOf o k c) (cellBefore (cellOf o k h) c) (all-store f cs o k h (and-r (f c) (all f cs) a) e)
   where
-    go : (b : Bool) → all f (store cs o k h) ≡ true → all f (cond b (cellOf o k h ∷ cs) (c ∷ store cs o k h)) ≡ true
-    go true ih = both e (and-r (f c) (all f cs) a)
-    go false ih = both (and-l (f c) (all f cs) a) ih
+    go : (q r : Bool) → all f (store cs o k h) ≡ true
+        → all f (cond q (cellOf o k h ∷ cs) (cond r (cellOf o k h ∷ c ∷ cs) (c ∷ store cs o k h))) ≡ true
+    go true r ih = both e (and-r (f c) (all f cs) a)
+    go false true ih = both e a
+    go false false ih = both (and-l (f c) (all f cs) a) ih
 
 module _ (table : List ℕ) (bytes : all (λ x. ltb x 256) table ≡ true) where
   small : (k : ℕ) → getD table k 0 < 256

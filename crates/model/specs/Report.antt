@@ -1,10 +1,10 @@
 -- What the program playlog prints of a log (15.4).
 use Prim.Native.Nat.{ℕ, zero, suc}
 use mathlib.Core.Bool.{Bool}
-use mathlib.Core.List.{List, [], _∷_, _++_, map}
-use Rattle.model.specs.Objects.{Object, Shape}
-use Rattle.model.specs.Entries.{Saved, Log, commitAt, ifSome}
-use Rattle.model.specs.Table.{Cell, capacity, cellOf, savedOf}
+use mathlib.Core.List.{List, [], _∷_, _++_}
+use Rattle.model.specs.Objects.{Shape}
+use Rattle.model.specs.Entries.{Log, commitAt, ifSome}
+use Rattle.model.specs.Table.{Cell, capacity}
 use Rattle.model.specs.Play.{cellsIn}
 use Rattle.model.specs.Replica.{auditPlay, commitsThere}
 
@@ -20,11 +20,6 @@ outcomes sh log room zero = []
 outcomes sh log room (suc p) = outcomes sh log room p
     ++ ifSome (commitAt log p) [] (λ c. record { offset = p; number = c .number; commits = commitsThere sh log room p } ∷ [])
 
--- the cells of a table ascending by object, then key
-abbrev pub cellsInOrder : List Object → List Cell → List Cell
-cellsInOrder [] cs = []
-cellsInOrder (b ∷ bs) cs = map (λ (c : Saved). cellOf b.id c.key c.held) (savedOf (b .id) cs) ++ cellsInOrder bs cs
-
 pub record Report : Type 0 where
   pub commits : List Outcome
   pub cells : List Cell
@@ -33,5 +28,5 @@ pub record Report : Type 0 where
 unfoldable pub report : Shape → Log → List ℕ → Report
 report sh log scratch = record {
   commits = outcomes sh log (capacity scratch) (log .tail);
-  cells = cellsInOrder (sh .objects) (cellsIn (auditPlay sh log (capacity scratch) (log .tail)));
+  cells = cellsIn (auditPlay sh log (capacity scratch) (log .tail));
 }

@@ -19,7 +19,7 @@ use Rattle.model.specs.Objects.{Object, ObjectKind, aMap, aRegister, the
 use Rattle.model.specs.Entries.{Read, Held, Log, decisionIn, commitAt, ifSome, isNone, writesOf, closed, decided, Decision, headerObjects, numberOf, earlier, commitObjects}
 use Rattle.model.specs.Slot.{writeBytes, writeAt, readBytes, readAt, savedBytes, savedAt, itemBytes, itemCount, headerOf, slotOf, decode, slot, logIn, objectsIn}
 use Rattle.model.specs.Rules.{okEntry, lowest, lowestBad, okWrite, okWrites, okRead, okReads, okSaved, narrow, goodAt, repeats}
-use Rattle.model.specs.Table.{Cell, Holds, cellAt, cellBytes, cellsOf, tableWith, capacity, apply, savedOf, versionIn, lookup, store}
+use Rattle.model.specs.Table.{Cell, Holds, cellAt, cellBytes, cellsOf, tableWith, capacity, apply, savedOf, versionIn, lookup, inOrder, store}
 use Rattle.model.specs.Play.{play, commitsOver, outcome, step}
 use Rattle.model.specs.Answers.{Answer, done, refused, badFrame}
 use Rattle.model.specs.Reading.{Info, owed, entryCall, itemList, infoIn}
@@ -245,5 +245,5 @@ mistakes =
     ∷ []
 
 pub mistakes-shown : all sampleHolds mistakes ≡ true
-unfolding sampleHolds beAt bytesOf splice values joined first firstFrom picks eqList writesOf closed decided headerObjects earlier writeBytes writeAt readBytes readAt savedBytes savedAt itemBytes itemCount headerOf slotOf decode slot logIn okEntry lowest lowestBad cellAt cellBytes cellsOf tableWith apply savedOf play commitsOver owed entryCall itemList infoIn entryOf ownTests append openFresh openAt playCall readCell audit accept runAt grown feed isObject isCell isMarked hosted okWrite okWrites okRead okReads okSaved narrow goodAt lookup store step badFrame objectsIn repeats
+unfolding sampleHolds beAt bytesOf splice values joined first firstFrom picks eqList writesOf closed decided headerObjects earlier writeBytes writeAt readBytes readAt savedBytes savedAt itemBytes itemCount headerOf slotOf decode slot logIn okEntry lowest lowestBad cellAt cellBytes cellsOf tableWith apply savedOf play commitsOver owed entryCall itemList infoIn entryOf ownTests append openFresh openAt playCall readCell audit accept runAt grown feed isObject isCell isMarked hosted okWrite okWrites okRead okReads okSaved narrow goodAt lookup inOrder store step badFrame objectsIn repeats
 mistakes-shown = refl

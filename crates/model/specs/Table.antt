@@ -1,13 +1,13 @@
 -- The table's cells, and what a cell holds (specification §7).
 use Prim.Native.Nat.{ℕ, _+_, _*_, _/_}
-use mathlib.Core.Bool.{Bool, cond, _&&_}
+use mathlib.Core.Bool.{Bool, cond, _&&_, _||_}
 use mathlib.Core.List.{List, [], _∷_, _++_}
 use mathlib.Core.Option.{Option, none, some}
 use lib.Dec.{eqb, ltb}
 use lib.ListN.{length, drop}
 use Rattle.lists.specs.Bytes.{beAt, bytesOf}
 use Rattle.lists.specs.Rows.{values, joined}
-use Rattle.lists.specs.Sets.{mem}
+use Rattle.lists.specs.Sets.{mem, ascending}
 use Rattle.model.specs.Entries.{Write, Held, Saved, contentOf}
 use Rattle.model.specs.Slot.{valueField}
 
@@ -63,10 +63,19 @@ presentField (some v) = 1
 abbrev pub cellOf : ℕ → ℕ → Held → Cell
 cellOf o k h = record { object = o; key = k; value = valueField (h .content); present = presentField (h .content); version = h .version }
 
--- a cell written: in its first row, or in a new last one (7.10)
+-- by object, then key
+abbrev pub cellBefore : Cell → Cell → Bool
+cellBefore c d = ltb c.object d.object || (eqb c.object d.object && ltb c.key d.key)
+
+-- the rows of a table that is in order: each before the next (7.4)
+unfoldable pub inOrder : List Cell → Bool
+inOrder cs = ascending cellBefore cs
+
+-- a cell written: in its row, or in a new one before the first that comes after it (7.10)
 unfoldable pub store : List Cell → ℕ → ℕ → Held → List Cell
 store [] o k h = cellOf o k h ∷ []
-store (c ∷ cs) o k h = cond (isOf o k c) (cellOf o k h ∷ cs) (c ∷ store cs o k h)
+store (c ∷ cs) o k h = cond (isOf o k c) (cellOf o k h ∷ cs)
+    (cond (cellBefore (cellOf o k h) c) (cellOf o k h ∷ c ∷ cs) (c ∷ store cs o k h))
 
 -- the hosted writes made in order, with one version (9.4)
 unfoldable pub apply : List ℕ → ℕ → List Write → List Cell → List Cell

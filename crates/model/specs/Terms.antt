@@ -13,7 +13,7 @@ use Rattle.model.specs.Objects.{Shape, isCell, hosted}
 use Rattle.model.specs.Entries.{Write, Read, Held, Saved, Condition, Decision, plain, numbered, commit, decision, Log, writesOf}
 use Rattle.model.specs.Slot.{mostSlots, itemSize}
 use Rattle.model.specs.Rules.{goodAt}
-use Rattle.model.specs.Table.{Holds, cellsOf, capacity, versionIn, lookup}
+use Rattle.model.specs.Table.{Cell, Holds, cellsOf, capacity, versionIn, lookup}
 use Rattle.model.specs.Answers.{done}
 use Rattle.model.specs.Append.{Replica, Request, update, commits, decides, saves, writesGiven, conditionGiven}
 use Rattle.model.specs.Replica.{Left, plainly}
@@ -70,10 +70,17 @@ pub record Blocked (log : Log) (set : List ℕ) (q : ℕ) : Type 0 where
 
 -- ---- plays
 
--- the record and the stop of a play: a hosted set, the counted cells within the table, and a stop from the position to the tail
+-- each row is of a smaller object than the next, or of the same and a smaller key
+abbrev pub InOrder : List Cell → Type 0
+InOrder [] = Unit {0}
+InOrder (c ∷ []) = Unit {0}
+InOrder (c ∷ d ∷ cs) = ((c .object < d .object) ⊎ ((c .object ≡ d .object) × (c .key < d .key))) × InOrder (d ∷ cs)
+
+-- the record and the stop of a play: a hosted set, the counted cells within the table and in order, and a stop from the position to the tail
 pub record Fit (tail : ℕ) (r : Carried) (stop : ℕ) : Type 0 where
   pub hosting : r .replica .hosting ≡ 0 → ⊥
   pub counted : r .replica .count ≤ capacity (r .table)
+  pub ordered : InOrder (cellsOf (r .table) (r .replica .count))
   pub onward : r .replica .position ≤ stop
   pub within : stop ≤ tail
 
@@ -147,6 +154,7 @@ pub record Saves (sh : Shape) (tail o k : ℕ) (h : Held) : Type 0 where
 pub record CheckpointAllowed (sh : Shape) (log : Log) (r : Replica) (table : List ℕ) (o : ℕ) : Type 0 where
   pub hosting : r .hosting ≡ 0 → ⊥
   pub counted : r .count ≤ capacity table
+  pub ordered : InOrder (cellsOf table (r .count))
   pub there : r .position ≡ log .tail
   pub hosts : mem o (hosted sh (r .hosting)) ≡ true
   pub each : (k : ℕ) (h : Held) → lookup (cellsOf table (r .count)) o k ≡ some h → Saves sh (log .tail) o k h

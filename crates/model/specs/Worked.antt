@@ -1,4 +1,5 @@
--- The worked logs marked (P) as one table, and one fact that covers all its rows (specification §16).
+-- The worked logs marked (P) as one table, and one fact that covers all its rows (specification §16). Beside it the worked
+-- examples of what was asked for later, as another.
 use Prim.Native.Nat.{ℕ, _-_, _*_}
 use mathlib.Core.Path.{_≡_, refl}
 use mathlib.Core.Bool.{Bool, true, false, cond, _&&_, Bool·beq}
@@ -16,11 +17,11 @@ use Rattle.model.specs.Objects.{theLayout, depots, everything, isObject,
 use Rattle.model.specs.Entries.{checkpoint, Log, writesOf, closed, decided, headerObjects, numberOf, earlier}
 use Rattle.model.specs.Slot.{headersBegin, headerSize, writeBytes, writeAt, readBytes, readAt, savedBytes, savedAt, itemBytes, itemCount, headerOf, slotOf, decode, slot, logIn, objectsIn}
 use Rattle.model.specs.Rules.{okEntry, lowest, lowestBad, okWrite, okWrites, okRead, okReads, okSaved, narrow, goodAt, repeats}
-use Rattle.model.specs.Table.{Cell, cellSize, cellAt, cellBytes, cellsOf, tableWith, apply, savedOf, cellOf, lookup, store}
+use Rattle.model.specs.Table.{Cell, cellSize, cellAt, cellBytes, cellsOf, tableWith, apply, savedOf, cellOf, lookup, inOrder, store}
 use Rattle.model.specs.Play.{play, commitsOver, step}
 use Rattle.model.specs.Answers.{Answer, done, refused, badFrame}
-use Rattle.model.specs.Append.{Replica, Request, update, commits, decides, entryOf, ownTests, append}
-use Rattle.model.specs.Replica.{Left, unopened, openFresh, playCall, sameContent, audit}
+use Rattle.model.specs.Append.{Replica, Request, update, commits, decides, saves, entryOf, ownTests, append}
+use Rattle.model.specs.Replica.{Left, unopened, openFresh, playCall, readCell, sameContent, audit}
 use Rattle.model.specs.Report.{Outcome, outcomes, report}
 use Rattle.model.specs.Histories.{Lent, inLog, empty, grown}
 
@@ -72,6 +73,10 @@ pub data Row : Type 0 where
   audited : List Request → ℕ → Ends → Row
   -- the appends, a hosted set, the bytes of the table, and what a play of a fresh replica to the tail answers, tells and leaves
   player : List Request → ℕ → ℕ → Ends → Row
+  -- the appends, a record and its table, and what a play to the tail answers and leaves: the record, and all bytes of the table
+  goesOn : List Request → Replica → List ℕ → ℕ → Replica → List ℕ → Row
+  -- the appends, a record at the tail and its table, a cell: what a play to the tail, reading the cell and a checkpoint of its object are answered
+  takes : List Request → Replica → List ℕ → ℕ → ℕ → List ℕ → Row
 
 -- 0 for done, else the number of a refusal
 abbrev pub code : {A : Type 0} → Answer A → ℕ
@@ -107,11 +112,14 @@ playIn l table (refused r) = unopened r table
 abbrev pub freshTo : Lent → ℕ → ℕ → Left
 freshTo l set n = playIn l (lentTable n) (openFresh set)
 
--- the whole record and the whole table of n bytes: the cells in order of first writing, the bytes past them untouched
+-- the whole record and the whole table of n bytes: the cells in their order, the bytes past them untouched
 abbrev pub leftIs : ℕ → ℕ → Left → Ends → Bool
 leftIs set n x e = eqb (code (x .answer)) (e .answers) && sameOffset (tells (x .answer)) (e .told)
     && eqb (x .replica .hosting) set && eqb (x .replica .position) (e .position) && eqb (x .replica .count) (length (e .cells))
     && eqList (x .table) (joined cellBytes (e .cells) ++ lentTable (n - cellSize * length (e .cells)))
+
+abbrev pub sameReplica : Replica → Replica → Bool
+sameReplica r s = eqb r.hosting s.hosting && eqb r.position s.position && eqb r.count s.count
 
 unfoldable pub rowHolds : Row → Bool
 rowHolds (header qs o h) = let l = logBy 6 qs in eqList (take (headerSize theLayout) (drop headersBegin (slot theLayout (l .bytes) o))) h
@@ -122,6 +130,14 @@ rowHolds (printed qs n os cs) =
     leftIs (everything depots) n (audit depots (inLog depots l) (lentTable n)) (ends (length qs) cs) && sameOutcomes (r .commits) os && sameCells (r .cells) cs
 rowHolds (audited qs n e) = let l = logBy 6 qs in leftIs (everything depots) n (audit depots (inLog depots l) (lentTable n)) e
 rowHolds (player qs set n e) = let l = logBy 6 qs in leftIs set n (freshTo l set n) e
+rowHolds (goesOn qs r table a r′ table′) =
+    let l = logBy 6 qs in
+    let x = playCall depots (inLog depots l) r table (l .tail) in
+    eqb (code (x .answer)) a && sameReplica (x .replica) r′ && eqList (x .table) table′
+rowHolds (takes qs r table o k codes) =
+    let l = logBy 6 qs in
+    eqList (code (playCall depots (inLog depots l) r table (l .tail) .answer) ∷ code (readCell depots r table o k)
+    ∷ code (append depots (l .bytes) (l .tail) (saves r table o) .newTail) ∷ []) codes
 
 abbrev pub line : ℕ → ℕ → Bool → Outcome
 line o n b = record { offset = o; number = n; commits = b }
@@ -160,5 +176,68 @@ rows =
     ∷ []
 
 pub worked : all rowHolds rows ≡ true
-unfolding rowHolds beAt bytesOf splice values joined first firstFrom eqList writesOf closed decided headerObjects earlier writeBytes writeAt readBytes readAt savedBytes savedAt itemBytes itemCount headerOf slotOf decode slot logIn okEntry lowest lowestBad cellAt cellBytes cellsOf tableWith apply savedOf play commitsOver entryOf ownTests append openFresh playCall audit outcomes report grown isObject isCell isMarked hosted okWrite okWrites okRead okReads okSaved narrow goodAt lookup store step badFrame objectsIn repeats
+unfolding rowHolds beAt bytesOf splice values joined first firstFrom eqList writesOf closed decided headerObjects earlier writeBytes writeAt readBytes readAt savedBytes savedAt itemBytes itemCount headerOf slotOf decode slot logIn okEntry lowest lowestBad cellAt cellBytes cellsOf tableWith apply savedOf play commitsOver entryOf ownTests append openFresh playCall audit outcomes report grown isObject isCell isMarked hosted okWrite okWrites okRead okReads okSaved narrow goodAt lookup inOrder store step badFrame objectsIn repeats
 worked = refl
+
+-- ---- a table in cell order
+
+-- a record of the set at a position with so many counted cells
+abbrev at : ℕ → ℕ → ℕ → Replica
+at set p n = record { hosting = set; position = p; count = n }
+
+-- three updates of objects 2 and 5
+abbrev mixed : List Request
+mixed = update 0 (put 5 1 6 ++ put 2 9 4) ∷ update 0 (put 2 3 5) ∷ update 0 (remove 2 9) ∷ []
+
+abbrev only7 : List Request
+only7 = update 0 (put 2 7 4) ∷ []
+
+-- rows as stored
+abbrev tableOf : List Cell → List ℕ
+tableOf cs = joined cellBytes cs
+
+abbrev plainCell : ℕ → ℕ → Cell
+plainCell o k = cell o k (some 4) 1
+
+-- a row that no player writes
+abbrev odd : ℕ → ℕ → Cell
+odd o k = record { object = o; key = k; value = 77; present = 9; version = 9223372036854775808 }
+
+abbrev pub later : List Row
+later =
+    -- a table of 96 bytes, played to 3, byte for byte
+    goesOn mixed (at 18 0 0) (lentTable 96) 0 (at 18 3 3) (
+    0 ∷ 0 ∷ 0 ∷ 2 ∷ 0 ∷ 0 ∷ 0 ∷ 3 ∷ 0 ∷ 0 ∷ 0 ∷ 5 ∷ 0 ∷ 0 ∷ 0 ∷ 1 ∷ 0 ∷ 0 ∷ 0 ∷ 0 ∷ 0 ∷ 0 ∷ 0 ∷ 2
+    ∷ 0 ∷ 0 ∷ 0 ∷ 2 ∷ 0 ∷ 0 ∷ 0 ∷ 9 ∷ 0 ∷ 0 ∷ 0 ∷ 0 ∷ 0 ∷ 0 ∷ 0 ∷ 0 ∷ 0 ∷ 0 ∷ 0 ∷ 0 ∷ 0 ∷ 0 ∷ 0 ∷ 3
+    ∷ 0 ∷ 0 ∷ 0 ∷ 5 ∷ 0 ∷ 0 ∷ 0 ∷ 1 ∷ 0 ∷ 0 ∷ 0 ∷ 6 ∷ 0 ∷ 0 ∷ 0 ∷ 1 ∷ 0 ∷ 0 ∷ 0 ∷ 0 ∷ 0 ∷ 0 ∷ 0 ∷ 1
+    ∷ lentTable 24)
+    -- of 48 bytes: no room for the cell that comes first
+    ∷ player mixed 18 48 (stops 13 1 (cell 2 9 (some 4) 1 ∷ cell 5 1 (some 6) 1 ∷ []))
+    ∷ audited mixed 48 (record { answers = 13; told = some 1; position = 1; cells = cell 2 9 (some 4) 1 ∷ cell 5 1 (some 6) 1 ∷ [] })
+    -- rows out of order, of which one or both are counted; a cell twice
+    ∷ takes mixed (at 2 3 2) (tableOf (plainCell 2 9 ∷ plainCell 2 3 ∷ [])) 2 9 (10 ∷ 10 ∷ 10 ∷ [])
+    ∷ takes mixed (at 2 3 1) (tableOf (plainCell 2 9 ∷ plainCell 2 3 ∷ [])) 2 9 (0 ∷ 0 ∷ 0 ∷ [])
+    ∷ takes mixed (at 2 3 2) (tableOf (plainCell 2 3 ∷ plainCell 2 3 ∷ [])) 2 3 (10 ∷ 10 ∷ 10 ∷ [])
+    -- rows of objects that are not hosted or not listed are judged too, by unsigned numbers
+    ∷ takes mixed (at 2 3 3) (tableOf (odd 1 5 ∷ plainCell 2 9 ∷ odd 99 0 ∷ [])) 2 9 (0 ∷ 0 ∷ 0 ∷ [])
+    ∷ takes mixed (at 2 3 2) (tableOf (odd 99 0 ∷ plainCell 2 9 ∷ [])) 2 9 (10 ∷ 10 ∷ 10 ∷ [])
+    ∷ takes mixed (at 2 3 3) (tableOf (odd 2 4294967295 ∷ odd 8 0 ∷ odd 2147483650 0 ∷ [])) 5 1 (0 ∷ 3 ∷ 3 ∷ [])
+    ∷ takes mixed (at 2 3 3) (tableOf (odd 2147483650 0 ∷ odd 2 4294967295 ∷ odd 8 0 ∷ [])) 5 1 (10 ∷ 10 ∷ 10 ∷ [])
+    -- an unlisted row moves whole to make room for a new cell
+    ∷ goesOn only7 (at 2 0 1) (tableOf (odd 3 1 ∷ []) ++ lentTable 25) 0 (at 2 1 2) (
+    0 ∷ 0 ∷ 0 ∷ 2 ∷ 0 ∷ 0 ∷ 0 ∷ 7 ∷ 0 ∷ 0 ∷ 0 ∷ 4 ∷ 0 ∷ 0 ∷ 0 ∷ 1 ∷ 0 ∷ 0 ∷ 0 ∷ 0 ∷ 0 ∷ 0 ∷ 0 ∷ 1
+    ∷ 0 ∷ 0 ∷ 0 ∷ 3 ∷ 0 ∷ 0 ∷ 0 ∷ 1 ∷ 0 ∷ 0 ∷ 0 ∷ 77 ∷ 0 ∷ 0 ∷ 0 ∷ 9 ∷ 128 ∷ 0 ∷ 0 ∷ 0 ∷ 0 ∷ 0 ∷ 0 ∷ 0
+    ∷ 7 ∷ [])
+    -- a new cell among rows of objects that are not hosted or not listed
+    ∷ goesOn only7 (at 2 0 3) (tableOf (odd 1 9 ∷ odd 2 8 ∷ odd 99 0 ∷ []) ++ lentTable 24) 0 (at 2 1 4) (tableOf (odd 1 9 ∷ cell 2 7 (some 4) 1 ∷ odd 2 8 ∷ odd 99 0 ∷ []))
+    -- a cell written twice by one transaction takes one row
+    ∷ player (update 9 (put 2 7 1 ++ put 2 7 2) ∷ commits 9 [] ∷ []) 2 24 (ends 2 (cell 2 7 (some 2) 2 ∷ []))
+    -- 13 in the middle of rows that fill the table, and nothing moves
+    ∷ goesOn only7 (at 2 0 2) (tableOf (odd 2 6 ∷ odd 2 8 ∷ [])) 13 (at 2 0 2) (tableOf (odd 2 6 ∷ odd 2 8 ∷ []))
+    -- a play refused with 10 leaves all as it was
+    ∷ goesOn only7 (at 2 0 2) (tableOf (odd 2 8 ∷ odd 2 6 ∷ [])) 10 (at 2 0 2) (tableOf (odd 2 8 ∷ odd 2 6 ∷ []))
+    ∷ []
+
+pub later-worked : all rowHolds later ≡ true
+unfolding rowHolds beAt bytesOf splice values joined first firstFrom eqList writesOf closed decided headerObjects earlier writeBytes writeAt readBytes readAt savedBytes savedAt itemBytes itemCount headerOf slotOf decode slot logIn okEntry lowest lowestBad cellAt cellBytes cellsOf tableWith apply savedOf play commitsOver entryOf ownTests append openFresh playCall readCell audit outcomes report grown isObject isCell isMarked hosted okWrite okWrites okRead okReads okSaved narrow goodAt lookup inOrder store step badFrame objectsIn repeats
+later-worked = refl

@@ -3,7 +3,7 @@
 use mathlib.Core.Path.{_≡_, refl, ap, sym, _∙_}
 use mathlib.Core.Bool.{Bool, true, false, cond}
 use mathlib.Core.List.{List}
-use Prim.Native.Nat.{ℕ, _*_, _/_, _≤_, _<_}
+use Prim.Native.Nat.{ℕ, _+_, _*_, _/_, _≤_, _<_}
 use lib.Dec.{eqb}
 use lib.ListN.{length}
 use Rattle.lists.specs.Sets.{all}
@@ -22,6 +22,7 @@ use Rattle.model.specs.Replica.{playCall}
 use Rattle.codec.specs.Marks.{kindOf}
 use Rattle.codec.specs.declared.marks.Mark.{Mark}
 use Rattle.codec.specs.declared.marks.Mark.the-variants.{Update, Commit, Decision, Checkpoint, Bad}
+use Rattle.table.specs.Order.{Ordered}
 use Rattle.slot.specs.Fields.{readIn}
 use Rattle.slot.specs.declared.fields.Read as code
 
@@ -34,6 +35,11 @@ pub read-current : (cells : Holds) (s : List ℕ) (i : ℕ) (r : code.Read) {v :
 unfolding readIn
 read-current cells s i r e f =
     ap (λ (v : ℕ). eqb v (r .version .0)) f ∙ ap (λ (x : code.Read). eqb (versionIn (cells (x .object .0) (x .key))) (x .version .0)) e
+
+-- what the test of the read at place k asks
+pub record ReadGiven (table : List ℕ) (count : ℕ) (items : List ℕ) (k : ℕ) : Type 0 where
+  pub cells : Ordered table count
+  pub read : itemSize * k + itemSize ≤ length items
 
 -- ---- where the replica stands
 

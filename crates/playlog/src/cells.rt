@@ -1,14 +1,13 @@
-// The lines of the cells: object, key, value or "-", version.
+// The lines of the cells: object, key, value or "-", version. The table has them in order.
 use codec::cells::Content;
-use codec::cells::Written;
-use codec::names::ObjectId;
 use records::Record;
-use replica::cells::Reading;
-use table::rows::Held;
+use table::rows::Row;
 
-fn content_line(id: ObjectId, key: u32, c: Written) {
-    printing::number(printing::wide(id.0));
-    printing::next(printing::wide(key));
+// The line of a cell.
+fn line(r: Row) {
+    printing::number(printing::wide(r.object.0));
+    printing::next(printing::wide(r.key));
+    let c = table::rows::written_in(r);
     let content = c.content;
     match content {
         Content::Removed => {
@@ -20,32 +19,16 @@ fn content_line(id: ObjectId, key: u32, c: Written) {
     printing::line_end();
 }
 
-// The line of a cell, where it was written.
-fn line(r: Record, table: &[u8], id: ObjectId, key: u32) {
-    let a = replica::cells::read_cell(r, table, id, key);
-    let Reading::Cell(h) = a else {
-        return;
-    };
-    match h {
-        Held::Never => {}
-        Held::Written(c) => content_line(id, key, c),
-    }
-}
-
-// The lines of an object's cells. No key is over 9,999; a key over the object's highest has no line.
-fn object_lines(r: Record, table: &[u8], id: ObjectId) {
-    let mut k = 0;
-    while k < 10000 {
-        line(r, table, id, k);
-        k += 1;
-    }
-}
-
+// The lines of the counted cells; none where the record does not fit its table.
 pub fn print(r: Record, table: &[u8]) {
     io::write_all(1, b"object key value version\n");
-    let mut x = 1;
-    while x <= 8 {
-        object_lines(r, table, ObjectId(x));
-        x += 1;
+    if !records::fits(r, table) {
+        return;
+    }
+    let n = r.count as usize;
+    let mut i = 0;
+    while i < n {
+        line(table::rows::row_at(table, i));
+        i += 1;
     }
 }

@@ -16,7 +16,7 @@ use Rattle.model.specs.Objects.{isObject, isCell, isMarked, hosted}
 use Rattle.model.specs.Entries.{writesOf, closed, decided, headerObjects, numberOf, earlier}
 use Rattle.model.specs.Slot.{writeBytes, writeAt, readBytes, readAt, savedBytes, savedAt, itemBytes, itemCount, headerOf, slotOf, decode, slot, logIn, objectsIn}
 use Rattle.model.specs.Rules.{okEntry, lowest, lowestBad, okWrite, okWrites, okRead, okReads, okSaved, narrow, goodAt, repeats}
-use Rattle.model.specs.Table.{cellAt, cellBytes, cellsOf, tableWith, apply, savedOf, lookup, store}
+use Rattle.model.specs.Table.{cellAt, cellBytes, cellsOf, tableWith, apply, savedOf, lookup, inOrder, store}
 use Rattle.model.specs.Play.{play, commitsOver, step}
 use Rattle.model.specs.Answers.{badFrame}
 use Rattle.model.specs.Reading.{owed, entryCall, itemList, infoIn}
@@ -52,7 +52,7 @@ playing =
 abbrev pub checkpoints : List Sample
 checkpoints =
     -- a removed cell has a version, and is saved and opened as removed; cells in key order
-    passes (update 0 (put 2 8 5 ++ put 2 7 4) ∷ update 0 (remove 2 7) ∷ save 2 (cell 2 8 (some 5) 1 ∷ cell 2 7 none 2 ∷ [])
+    passes (update 0 (put 2 8 5 ++ put 2 7 4) ∷ update 0 (remove 2 7) ∷ save 2 (cell 2 7 none 2 ∷ cell 2 8 (some 5) 1 ∷ [])
     ∷ update 9 (put 2 7 6) ∷ commits 9 (read 2 7 2) ∷ []) 5 (atCheckpoint 3 2 five) (to 5 5 ∷ [])
     -- refused openings: no checkpoint, no room
     ∷ passes (update 0 (put 2 7 4) ∷ []) 1 (atCheckpoint 1 0 five) []
@@ -83,17 +83,17 @@ abbrev pub written : List Request
 written = update 0 (put 2 7 4 ++ remove 5 1) ∷ update 9 both ∷ commits 9 (read 1 1 0 ++ read 2 7 1) ∷ decides 2 1 ∷ save 4 (cell 2 7 (some 1) 3 ∷ []) ∷ []
 
 pub written-back : backsHold (empty (replicate (small .layout .slotSize * 5) 7)) written ≡ true
-unfolding beAt bytesOf splice values joined first firstFrom picks eqList writesOf closed decided headerObjects earlier writeBytes writeAt readBytes readAt savedBytes savedAt itemBytes itemCount headerOf slotOf decode slot logIn okEntry lowest lowestBad cellAt cellBytes cellsOf tableWith apply savedOf play commitsOver owed entryCall itemList infoIn entryOf ownTests append openFresh openAt playCall readCell audit accept runAt grown feed isObject isCell isMarked hosted okWrite okWrites okRead okReads okSaved narrow goodAt lookup store step badFrame objectsIn repeats
+unfolding beAt bytesOf splice values joined first firstFrom picks eqList writesOf closed decided headerObjects earlier writeBytes writeAt readBytes readAt savedBytes savedAt itemBytes itemCount headerOf slotOf decode slot logIn okEntry lowest lowestBad cellAt cellBytes cellsOf tableWith apply savedOf play commitsOver owed entryCall itemList infoIn entryOf ownTests append openFresh openAt playCall readCell audit accept runAt grown feed isObject isCell isMarked hosted okWrite okWrites okRead okReads okSaved narrow goodAt lookup inOrder store step badFrame objectsIn repeats
 written-back = refl
 
 pub playing-hold : all sampleHolds playing ≡ true
-unfolding sampleHolds beAt bytesOf splice values joined first firstFrom picks eqList writesOf closed decided headerObjects earlier writeBytes writeAt readBytes readAt savedBytes savedAt itemBytes itemCount headerOf slotOf decode slot logIn okEntry lowest lowestBad cellAt cellBytes cellsOf tableWith apply savedOf play commitsOver owed entryCall itemList infoIn entryOf ownTests append openFresh openAt playCall readCell audit accept runAt grown feed isObject isCell isMarked hosted okWrite okWrites okRead okReads okSaved narrow goodAt lookup store step badFrame objectsIn repeats
+unfolding sampleHolds beAt bytesOf splice values joined first firstFrom picks eqList writesOf closed decided headerObjects earlier writeBytes writeAt readBytes readAt savedBytes savedAt itemBytes itemCount headerOf slotOf decode slot logIn okEntry lowest lowestBad cellAt cellBytes cellsOf tableWith apply savedOf play commitsOver owed entryCall itemList infoIn entryOf ownTests append openFresh openAt playCall readCell audit accept runAt grown feed isObject isCell isMarked hosted okWrite okWrites okRead okReads okSaved narrow goodAt lookup inOrder store step badFrame objectsIn repeats
 playing-hold = refl
 
 pub checkpoints-hold : all sampleHolds checkpoints ≡ true
-unfolding sampleHolds beAt bytesOf splice values joined first firstFrom picks eqList writesOf closed decided headerObjects earlier writeBytes writeAt readBytes readAt savedBytes savedAt itemBytes itemCount headerOf slotOf decode slot logIn okEntry lowest lowestBad cellAt cellBytes cellsOf tableWith apply savedOf play commitsOver owed entryCall itemList infoIn entryOf ownTests append openFresh openAt playCall readCell audit accept runAt grown feed isObject isCell isMarked hosted okWrite okWrites okRead okReads okSaved narrow goodAt lookup store step badFrame objectsIn repeats
+unfolding sampleHolds beAt bytesOf splice values joined first firstFrom picks eqList writesOf closed decided headerObjects earlier writeBytes writeAt readBytes readAt savedBytes savedAt itemBytes itemCount headerOf slotOf decode slot logIn okEntry lowest lowestBad cellAt cellBytes cellsOf tableWith apply savedOf play commitsOver owed entryCall itemList infoIn entryOf ownTests append openFresh openAt playCall readCell audit accept runAt grown feed isObject isCell isMarked hosted okWrite okWrites okRead okReads okSaved narrow goodAt lookup inOrder store step badFrame objectsIn repeats
 checkpoints-hold = refl
 
 pub refusing-hold : all sampleHolds refusing ≡ true
-unfolding sampleHolds beAt bytesOf splice values joined first firstFrom picks eqList writesOf closed decided headerObjects earlier writeBytes writeAt readBytes readAt savedBytes savedAt itemBytes itemCount headerOf slotOf decode slot logIn okEntry lowest lowestBad cellAt cellBytes cellsOf tableWith apply savedOf play commitsOver owed entryCall itemList infoIn entryOf ownTests append openFresh openAt playCall readCell audit accept runAt grown feed isObject isCell isMarked hosted okWrite okWrites okRead okReads okSaved narrow goodAt lookup store step badFrame objectsIn repeats
+unfolding sampleHolds beAt bytesOf splice values joined first firstFrom picks eqList writesOf closed decided headerObjects earlier writeBytes writeAt readBytes readAt savedBytes savedAt itemBytes itemCount headerOf slotOf decode slot logIn okEntry lowest lowestBad cellAt cellBytes cellsOf tableWith apply savedOf play commitsOver owed entryCall itemList infoIn entryOf ownTests append openFresh openAt playCall readCell audit accept runAt grown feed isObject isCell isMarked hosted okWrite okWrites okRead okReads okSaved narrow goodAt lookup inOrder store step badFrame objectsIn repeats
 refusing-hold = refl

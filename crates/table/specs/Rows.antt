@@ -1,12 +1,13 @@
 -- Rows of a table by their place, and the code's values as the model has them.
 use mathlib.Core.Path.{_≡_}
-use mathlib.Core.Bool.{cond}
+use mathlib.Core.Bool.{true, cond}
 use mathlib.Core.List.{List, [], _∷_}
 use mathlib.Core.Option.{Option, none, some}
-use Prim.Native.Nat.{ℕ, zero, suc, _*_, _≤_}
-use lib.ListN.{length}
+use Prim.Native.Nat.{ℕ, zero, suc, _*_}
+use Rattle.lists.specs.Splice.{splice}
 use Rattle.model.specs.Entries.{Held}
-use Rattle.model.specs.Table.{Cell, isOf, cellsOf, store, cellSize}
+use Rattle.model.specs.Table.{Cell, isOf, cellBytes, cellSize}
+use Rattle.laws.proofs.Items.{fitsCell}
 use Rattle.codec.specs.Cells.{heldOf}
 use Rattle.table.specs.declared.rows.Row.{Row}
 use Rattle.table.specs.declared.rows.Held as code
@@ -22,11 +23,10 @@ unfoldable pub rowIn : List Cell → ℕ → ℕ → ℕ
 rowIn [] o k = 0
 rowIn (c ∷ cs) o k = cond (isOf o k c) 1 (further (rowIn cs o k))
 
--- the counted rows lie in the table, and so does the row that a cell has once it is stored
-pub record RowFor (table : List ℕ) (count row o k : ℕ) (h : Held) : Type 0 where
-  pub rows : cellSize * count ≤ length table
-  pub inside : cellSize * row ≤ length table
-  pub stored : rowIn (store (cellsOf table count) o k h) o k ≡ row
+-- row i of table t put in, and the table then is t′; its fields fit their bytes
+pub record RowPut (t t′ : List ℕ) (i : ℕ) (c : Cell) : Type 0 where
+  pub bytes : t′ ≡ splice t (cellSize * i) (cellBytes c)
+  pub fits : fitsCell c ≡ true
 
 abbrev pub cellIn : Row → Cell
 cellIn r = record { object = r .object .0; key = r .key; value = r .value; present = r .present; version = r .version .0 }

@@ -1,16 +1,16 @@
--- The bytes of a table after a cell is stored: one row put in is the table with the cells after the store. A row that is there
--- is replaced between those before and after it, a new one follows the last.
+-- The bytes of a table: what a row of it holds, a row put in the place of another, and the table with other cells.
 use mathlib.Core.Path.{_≡_, refl, ap, ap₂, sym, subst, _∙_}
 use mathlib.Core.Bool.{Bool, true, false, cond}
-use mathlib.Core.Option.{none, some}
+use mathlib.Core.Option.{Option, none, some}
 use mathlib.Core.List.{List, [], _∷_, _++_, append-assoc}
-use Prim.Native.Nat.{ℕ, zero, suc, _+_, _-_, _*_, _≤_, _<_}
+use Prim.Native.Nat.{ℕ, suc, _+_, _-_, _*_, _^_, _≤_, _<_}
 use native.Mathlib.Nat.{zero-add}
 use native.Mathlib.Omega.{arith}
 use lib.Dec.{eqb, ltb}
 use lib.ListN.{length, getD, take, drop, set, length-append, length-set, length-drop}
 use lib.Seq.{drop-at, take-at, split-at, set-split, length-take-le, drop-drop}
-use Rattle.lists.specs.Tests.{and-l, and-r, ands}
+use borrow.Author.Tests.{lt-ltb}
+use Rattle.lists.specs.Tests.{and-l, and-r, both, ands}
 use Rattle.lists.specs.Sets.{all}
 use Rattle.lists.specs.Bytes.{bytesOf, length-bytesOf}
 use Rattle.lists.specs.Rows.{values, joined, length-values, getD-values, joined-append}
@@ -18,12 +18,11 @@ use Rattle.lists.specs.Splice.{splice, splice-then}
 use Rattle.model.specs.Entries.{Held}
 use Rattle.model.specs.Slot.{valueField}
 use Rattle.model.specs.Rules.{fits}
-use Rattle.model.specs.Table.{Cell, cellAt, cellBytes, cellsOf, tableWith, isOf, heldBy, lookup, cellOf, store, cellSize}
+use Rattle.model.specs.Table.{Cell, cellAt, cellBytes, cellsOf, tableWith, isOf, heldBy, lookup, cellOf, presentField, cellSize}
 use Rattle.laws.proofs.Items.{fitsCell, length-cell}
-use Rattle.laws.proofs.Tables.{length-cells, length-stored, cells-back, table-back, cells-fit, all-store}
-use Rattle.laws.proofs.Stored.{bytes-all}
-use Rattle.table.specs.Rows.{rowIn, RowFor}
-use Rattle.table.specs.RowLaws.{row-some, row-le, store-new, store-old, row-store-new, row-store-old, length-by-row}
+use Rattle.laws.proofs.Tables.{length-cells, length-stored, table-back, cells-fit}
+use Rattle.table.specs.Rows.{rowIn}
+use Rattle.table.specs.RowLaws.{row-some, row-le}
 
 -- the row of a cell lies in the table, as the counted rows do
 pub row-room : (t : List ℕ) (count row o k : ℕ) → row ≡ rowIn (cellsOf t count) o k → cellSize * count ≤ length t → cellSize * row ≤ length t
@@ -73,6 +72,16 @@ row-put t s c h e₁ e₂ e₃ e₄ e₅ =
     let f₄ = splice-then t s d (bytesOf 4 (c .present)) f₃ e₄ (omega (arith, ld)) (omega (arith, ld)) in
     splice-then t s g (bytesOf 8 (c .version)) f₄ e₅ (omega (arith, lg)) (omega (arith, lg))
 
+-- the fields of a written cell's row fit, where its numbers do
+pub cell-fits : (o k w : ℕ) (x : Option ℕ) → o < 2 ^ 32 → k < 2 ^ 32 → w < 2 ^ 64 → valueField x < 2 ^ 32
+    → fitsCell (cellOf o k (record { version = w; content = x })) ≡ true
+cell-fits o k w x a b c d =
+    both (both (both (both (lt-ltb o (2 ^ 32) a) (lt-ltb k (2 ^ 32) b)) (lt-ltb (valueField x) (2 ^ 32) d)) (present x)) (lt-ltb w (2 ^ 64) c)
+  where
+    present : (y : Option ℕ) → fits 4 (presentField y) ≡ true
+    present none = refl
+    present (some n) = refl
+
 -- the bytes of a table with a row in the middle
 with-mid : (t : List ℕ) (p : List Cell) (c : Cell) (q : List Cell) (n : ℕ) → length (p ++ c ∷ q) ≡ n
     → tableWith t (p ++ c ∷ q) ≡ joined cellBytes p ++ cellBytes c ++ (joined cellBytes q ++ drop (cellSize * n) t)
@@ -113,57 +122,9 @@ module _ (t : List ℕ) (bytes : all (λ x. ltb x 256) t ≡ true) (count : ℕ)
       ∙ splice-mid (joined cellBytes p) (cellBytes old) (cellBytes c) (joined cellBytes q ++ drop (cellSize * count) t) (cellSize * i) at (length-cell old ∙ sym (length-cell c))
       ∙ sym (ap (tableWith t) new ∙ with-mid t p c q count (ap length (sym new) ∙ length-set cs i c ∙ n))
 
-  pub row-appended : (c : Cell) → splice t (cellSize * count) (cellBytes c) ≡ tableWith t (cellsOf t count ++ (c ∷ []))
-  unfolding splice joined tableWith
-  row-appended c =
-      let cs = cellsOf t count in
-      let n : length cs ≡ count = length-cells t count in
-      let e : cellSize * count + length (cellBytes c) ≡ cellSize * (count + 1) = omega (arith, length-cell c) in
-      let m : length (cs ++ (c ∷ [])) ≡ count + 1 = length-append cs (c ∷ []) ∙ ap (λ (k : ℕ). k + 1) n in
-      ap₂ (λ (a b : List ℕ). a ++ cellBytes c ++ b)
-      (ap (take (cellSize * count)) (sym (table-back t bytes count room)) ∙ take-at (joined cellBytes cs) (drop (cellSize * length cs) t) (cellSize * count) (length-stored cs ∙ ap (λ (k : ℕ). cellSize * k) n))
-      (ap (λ (k : ℕ). drop k t) e)
-      ∙ sym (with-mid t cs c [] (count + 1) m)
-
-  -- a cell stored, in its row or in a new one
-  pub cell-stored : (o k : ℕ) (h : Held) → splice t (cellSize * (rowIn (store (cellsOf t count) o k h) o k - 1)) (cellBytes (cellOf o k h)) ≡ tableWith t (store (cellsOf t count) o k h)
-  cell-stored o k h = go (rowIn (cellsOf t count) o k) refl
-    where
-      go : (r : ℕ) → rowIn (cellsOf t count) o k ≡ r
-          → splice t (cellSize * (rowIn (store (cellsOf t count) o k h) o k - 1)) (cellBytes (cellOf o k h)) ≡ tableWith t (store (cellsOf t count) o k h)
-      go zero e =
-          let at : rowIn (store (cellsOf t count) o k h) o k - 1 ≡ count = omega (arith, row-store-new (cellsOf t count) o k h e, length-cells t count) in
-          rw (at, store-new (cellsOf t count) o k h e) (row-appended (cellOf o k h))
-      go (suc i) e =
-          let at : rowIn (store (cellsOf t count) o k h) o k - 1 ≡ i = omega (arith, row-store-old (cellsOf t count) o k h i e) in
-          rw (at, store-old (cellsOf t count) o k h i e)
-          (row-replaced i (cellOf o k h) (omega (arith, row-some (cellsOf t count) o k i (cellOf o k h) e .0, length-cells t count)))
-
--- ---- a call that stores a cell: the count and the bytes that it leaves
-
-pub cell-written : (t : List ℕ) (count row o k : ℕ) (h : Held) → ((j : ℕ) → getD t j 0 < 256) → RowFor t count row o k h
-    → (t′ : List ℕ) → t′ ≡ splice t (cellSize * (row - 1)) (cellBytes (cellOf o k h))
-    → (b : Bool) → ltb count row ≡ b
-    → _≡_ {A = ℕ × List ℕ} (cond b (count + 1) count, t′) (length (store (cellsOf t count) o k h), tableWith t (store (cellsOf t count) o k h))
-cell-written t count row o k h small r t′ f b u =
-    let e = r .stored in
-    let cs = cellsOf t count in
-    let n : length cs ≡ count = length-cells t count in
-    let v : ltb (length cs) (rowIn (store cs o k h) o k) ≡ b = ap₂ ltb n e ∙ u in
-    let size : cond b (count + 1) count ≡ length (store cs o k h) =
-    sym (length-by-row cs o k h ∙ (λ j. cond (v j) (n j + 1) (n j))) in
-    let left : t′ ≡ tableWith t (store cs o k h) =
-    f ∙ ap (λ (r : ℕ). splice t (cellSize * (r - 1)) (cellBytes (cellOf o k h))) (sym e) ∙ cell-stored t (bytes-all t (λ j l. small j)) count (r .rows) o k h in
-    λ j. (size j, left j)
-
 -- ---- the cells then
 
 module _ (t : List ℕ) (bytes : all (λ x. ltb x 256) t ≡ true) (count : ℕ) where
-  -- they are read back as they were stored
-  pub stored-back : (o k : ℕ) (h : Held) → fitsCell (cellOf o k h) ≡ true
-      → cellsOf (tableWith t (store (cellsOf t count) o k h)) (length (store (cellsOf t count) o k h)) ≡ store (cellsOf t count) o k h
-  stored-back o k h f = cells-back t (store (cellsOf t count) o k h) (all-store fitsCell (cellsOf t count) o k h (cells-fit t bytes count) f)
-
   -- the value of a cell fits its bytes
   pub value-fits : (o k : ℕ) {h : Held} → lookup (cellsOf t count) o k ≡ some h → fits 4 (valueField (h .content)) ≡ true
   value-fits o k {h} e = lookup-fits (cellsOf t count) (cells-fit t bytes count) o k h e

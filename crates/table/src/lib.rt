@@ -1,4 +1,8 @@
-// A replica's table: rows of 24 bytes, in order of first writing, and the rows of cells by place.
-pub mod index;
-pub mod places;
+// A replica's table: rows of 24 bytes that ascend by object, then key. While a call plays, new rows are kept in a run of their own.
+pub mod moves;
+pub mod order;
+pub mod radix;
 pub mod rows;
+pub mod runs;
+pub mod seek;
+pub mod sorting;

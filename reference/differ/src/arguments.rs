@@ -2,7 +2,7 @@
 
 use reference::append::Request;
 use reference::objects::object as listed;
-use reference::random::{edge, junk, Random};
+use reference::random::{edge, junk, put_in_order, Random};
 use reference::replica::Record;
 use reference::sample::{commit, put, read, remove, table_of, update};
 use reference::slot::{Read, Write};
@@ -80,7 +80,7 @@ fn version(random: &mut Random, tail: u64) -> u64 {
     }
 }
 
-/// A table of rows of any kind, repeated cells and odd present fields among them, with some bytes more.
+/// A table of rows of any kind, mostly in order, now and then not or with repeated cells; odd present fields, some bytes more.
 pub fn table(random: &mut Random, seen: Seen) -> Vec<u8> {
     if random.percent(15) {
         return junk(random, 130);
@@ -97,6 +97,9 @@ pub fn table(random: &mut Random, seen: Seen) -> Vec<u8> {
             _ => row(random, seen),
         };
         rows.push(row);
+    }
+    if random.percent(80) {
+        put_in_order(&mut rows);
     }
     let mut table = table_of(&rows);
     table.resize(table.len() + random.below(60) as usize, 0xEE);

@@ -4,13 +4,15 @@ use std::collections::BTreeMap;
 
 use reference::append::Request;
 use reference::boundary::Said;
+use reference::replica::Record;
 use reference::rules::objects_written;
 use reference::slot::{slot_at, writes_in, Kind};
+use reference::table::{capacity, in_order};
 
 use crate::calls::{Call, NAMES};
 
 /// Cases that must be met beside the numbers.
-pub const CASES: [&str; 20] = [
+pub const CASES: [&str; 23] = [
     "owed: an offset",
     "owed: none",
     "entry: update",
@@ -31,6 +33,9 @@ pub const CASES: [&str; 20] = [
     "audit: 11 at a decision",
     "audit: 11 at a checkpoint",
     "audit: 13 past other entries",
+    "append_checkpoint: 10 for the order of the rows",
+    "play: 10 for the order of the rows",
+    "read_cell: 10 for the order of the rows",
 ];
 
 /// Met on far logs alone.
@@ -90,6 +95,13 @@ impl Cover {
     }
 }
 
+/// The record's set and count are good, and its rows do not ascend.
+fn disorder_alone(record: &Record, table: &[u8]) -> bool {
+    record.hosted != 0
+        && record.count <= capacity(table) as u64
+        && !in_order(table, record.count as usize)
+}
+
 fn case_of(log: &[u8], call: &Call, said: &Said) -> Option<&'static str> {
     let (number, out) = (said.number, &said.out);
     match (call, number) {
@@ -107,6 +119,15 @@ fn case_of(log: &[u8], call: &Call, said: &Said) -> Option<&'static str> {
             }
         }
         (Call::ReadCell { .. }, 0) => Some(CASES[11 + out[0] as usize]),
+        (Call::Append(Request::Checkpoint { record, table, .. }), 10)
+            if disorder_alone(record, table) =>
+        {
+            Some(CASES[20])
+        }
+        (Call::Play { record, table, .. }, 10) if disorder_alone(record, table) => Some(CASES[21]),
+        (Call::ReadCell { record, table, .. }, 10) if disorder_alone(record, table) => {
+            Some(CASES[22])
+        }
         (Call::Play { record, .. }, 12) if out[1] > record.position => {
             Some("play: 12 past other entries")
         }

@@ -4,11 +4,11 @@
 use reference::append::Request;
 use reference::bytes::{put16, put64};
 use reference::objects::set_of;
-use reference::random::{History, Mix, Random};
+use reference::random::{put_in_order, History, Mix, Random};
 use reference::replica::Record;
-use reference::sample::{put, update};
+use reference::sample::{put, table_of, update};
 use reference::slot::{slot_at, MOST_SLOTS, SLOT};
-use reference::table::{put_row, Row, CELL};
+use reference::table::{put_row, row, Row, CELL};
 
 use crate::arguments::{self, Seen};
 use crate::calls::Call;
@@ -182,27 +182,42 @@ fn damaged(
     Ok(())
 }
 
-/// A table of 70,000 rows, more than there are cells, and room for one more.
+/// A table of 70,000 rows that ascend, more than there are cells, and room for one more.
 fn crowded(random: &mut Random, tail: u64) -> Vec<u8> {
-    let mut table = vec![0; 70_001 * CELL];
-    for place in 0..70_000 {
-        let object = 1 + random.below(8) as u32;
-        let key = arguments::key(random, object, 9_000);
-        let version = random.below(tail + 1);
-        put_row(&mut table, place, Row::of(object, key, Some(7), version));
+    let mut rows: Vec<Row> = Vec::new();
+    while rows.len() < 70_000 {
+        rows.extend((0..4_000).map(|_| {
+            let object = random.below(11) as u32;
+            let object = object + 0x8000_0000 * u32::from(random.percent(20));
+            let key = random.below(20_000) as u32;
+            Row::of(object, key, Some(7), random.below(tail + 1))
+        }));
+        put_in_order(&mut rows);
     }
+    while rows.len() > 70_000 {
+        rows.remove(random.below(rows.len() as u64) as usize);
+    }
+    let mut table = table_of(&rows);
+    table.resize(70_001 * CELL, 0);
     table
 }
 
-/// Tables full of repeated cells: plays, cell readings, checkpoints, the audit.
+/// Tables of many rows, most of them no cells, in order and with two rows changed about: plays, cell readings, checkpoints, the
+/// audit.
 pub fn large_tables(pair: &mut Pair, seed: u64) -> Result<(), Difference> {
     pair.begin("large tables", seed);
     let mut random = Random::new(seed ^ 0x5EED_0004);
     let history = History::made(seed, 60, 60, Mix::rough());
     let tail = history.writer.tail as u64;
     let mut log = history.writer.log;
-    for count in [3, 70_000] {
-        let table = crowded(&mut random, tail);
+    for (count, ascends) in [(3, true), (70_000, true), (70_000, false)] {
+        let mut table = crowded(&mut random, tail);
+        if !ascends {
+            let place = random.below(69_999) as usize;
+            let (one, next) = (row(&table, place), row(&table, place + 1));
+            put_row(&mut table, place, next);
+            put_row(&mut table, place + 1, one);
+        }
         let record = |position| Record {
             hosted: 0xFF,
             position,

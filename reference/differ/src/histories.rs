@@ -2,10 +2,10 @@
 //! other calls are made in between.
 
 use reference::append::Request;
-use reference::random::{broken, History, Mix, Random};
+use reference::random::{broken, put_in_order, History, Mix, Random};
 use reference::replica::Record;
 use reference::slot::{slot_at, Kind, SLOT};
-use reference::table::{capacity, put_row, row, Row, CELL};
+use reference::table::{capacity, put_row, row, rows, Row, CELL};
 
 use crate::arguments::{self, Seen};
 use crate::calls::{Call, NAMES};
@@ -254,10 +254,14 @@ impl Case<'_> {
         }
     }
 
-    /// An instalment, at the tail or an older one; now and then on a table that somebody changed.
+    /// An instalment, at the tail or an older one; now and then on a table that somebody changed, or first on a copy that is out
+    /// of order.
     fn play(&mut self, mut replica: Replica) -> Result<(), Difference> {
         if self.random.percent(12) {
             tamper(&mut self.random, &mut replica);
+        }
+        if self.random.percent(8) {
+            self.out_of_order(&replica)?;
         }
         let tail = match self.random.percent(60) {
             true => self.tail(),
@@ -280,6 +284,38 @@ impl Case<'_> {
                 record: record_of(said.out),
                 table,
             });
+        }
+        Ok(())
+    }
+
+    /// The calls that take a record with a table, on one whose rows do not ascend.
+    fn out_of_order(&mut self, replica: &Replica) -> Result<(), Difference> {
+        let Some((record, table)) = disordered(&mut self.random, replica) else {
+            return Ok(());
+        };
+        let tail = self.tail();
+        let object = arguments::object(&mut self.random);
+        let mut calls = [
+            Call::Play {
+                record,
+                table: table.clone(),
+                stop: record.position + self.random.below(3),
+            },
+            Call::ReadCell {
+                record,
+                table: table.clone(),
+                object,
+                key: 0,
+            },
+            Call::Append(Request::Checkpoint {
+                record,
+                table,
+                object,
+            }),
+        ];
+        for call in &mut calls {
+            let mut copy = self.log.clone();
+            self.pair.call(&mut copy, tail, call)?;
         }
         Ok(())
     }
@@ -308,30 +344,65 @@ impl Case<'_> {
     }
 }
 
-/// Repeats a cell further down with other content, or changes a row's present field or version.
+/// Changes a row's value, present field or version, or adds a row that the replica does not have; the rows still ascend.
 fn tamper(random: &mut Random, replica: &mut Replica) {
     let count = replica.record.count as usize;
     if count == 0 {
         return;
     }
     let place = random.below(count as u64) as usize;
-    let first = row(&replica.table, place);
-    let change = Row {
-        value: first.value ^ 5,
-        version: random.below(replica.record.position + 1),
-        ..first
-    };
+    let given = row(&replica.table, place);
     match random.below(4) {
-        0..=1 if count < capacity(&replica.table) => {
-            put_row(&mut replica.table, count, change);
-            replica.record.count += 1;
-        }
+        0..=1 if count < capacity(&replica.table) => add(random, replica),
         2 => {
             let present = random.below(4) as u32;
-            put_row(&mut replica.table, place, Row { present, ..first });
+            put_row(&mut replica.table, place, Row { present, ..given });
         }
-        _ => put_row(&mut replica.table, place, change),
+        _ => {
+            let change = Row {
+                value: given.value ^ 5,
+                version: random.below(replica.record.position + 1),
+                ..given
+            };
+            put_row(&mut replica.table, place, change);
+        }
     }
+}
+
+/// One row more, of any object and key, in its place.
+fn add(random: &mut Random, replica: &mut Replica) {
+    let count = replica.record.count as usize;
+    let object = arguments::object(random);
+    let mut all: Vec<Row> = rows(&replica.table, count).collect();
+    all.push(Row {
+        object,
+        key: arguments::key(random, object, 3),
+        value: 77,
+        present: random.below(4) as u32,
+        version: random.number(),
+    });
+    put_in_order(&mut all);
+    for (place, row) in all.iter().enumerate() {
+        put_row(&mut replica.table, place, *row);
+    }
+    replica.record.count = all.len() as u64;
+}
+
+/// A copy of the record and the table with two rows changed about, or a row in the place of the next too.
+fn disordered(random: &mut Random, replica: &Replica) -> Option<(Record, Vec<u8>)> {
+    let count = replica.record.count as usize;
+    if count < 2 || count > capacity(&replica.table) {
+        return None;
+    }
+    let mut table = replica.table.clone();
+    let one = random.below(count as u64 - 1) as usize;
+    let other = one + 1 + random.below((count - one - 1) as u64) as usize;
+    let (first, second) = (row(&table, one), row(&table, other));
+    put_row(&mut table, other, first);
+    if random.percent(60) {
+        put_row(&mut table, one, second);
+    }
+    Some((replica.record, table))
 }
 
 fn record_of(out: [u64; 8]) -> Record {

@@ -65,6 +65,8 @@ struct Lent {
     table: Vec<u8>,
     number: u32,
     items: Vec<u8>,
+    /// The replica that is played.
+    record: Record,
 }
 
 /// Nanoseconds of one call, the least of those made in so many nanoseconds or of three, and its answer in words.
@@ -73,18 +75,22 @@ pub fn measured(call: &str, made: Made, side: Side, time: f64) -> (f64, String) 
         .iter()
         .map(|object| object.highest_key as usize + 1)
         .sum();
+    let (record, rows) = made.replica.unwrap_or((FRESH, Vec::new()));
     let mut lent = Lent {
         tail: made.log.len() / SLOT,
         log: made.log,
         table: vec![0; cells * CELL],
         number: made.number,
         items: write_bytes(&[put(2, 7, 43), put(5, 77, 1)]),
+        record,
     };
     let mut least = f64::MAX;
     let mut whole = 0.0;
     let mut said = None;
     let mut calls = 0;
     while calls < 3 || whole < time && calls < 2_000 {
+        // A play changes the rows that it was given.
+        lent.table[..rows.len()].copy_from_slice(&rows);
         let start = now();
         said = Some(call_made(call, side, &mut lent));
         let took = now() - start;
@@ -138,7 +144,7 @@ fn by_reference(call: &str, lent: &mut Lent) -> Said {
             };
             boundary::append(&mut lent.log, tail - 1, &request)
         }
-        "play" => boundary::play(&lent.log, tail, FRESH, &mut lent.table, tail as u64),
+        "play" => boundary::play(&lent.log, tail, lent.record, &mut lent.table, tail as u64),
         _ => boundary::audit(&lent.log, tail, &mut lent.table),
     }
 }
@@ -161,9 +167,9 @@ fn by_library(call: &str, lent: &mut Lent) -> Said {
                 log,
                 log_len,
                 tail,
-                FRESH.hosted,
-                FRESH.position,
-                FRESH.count,
+                lent.record.hosted,
+                lent.record.position,
+                lent.record.count,
                 table,
                 table_len,
                 tail,

@@ -194,6 +194,10 @@ made so. `tools/bench --worst` makes this section.\n\n\
 - Numbers: updates, each of a transaction of its own, in the first half of the log; then their commit records in the same order.\n\
 - Powers of two less 1, and 1 to 32: updates of 32 transactions in turn, then their commit records.\n\
 - Checkpoints: a plain update of the object's highest key, then checkpoints with that cell.\n\
+- New cells: plain updates of 12 writes that write all 21,503 cells, by object and key ascending, descending or in mixed order, and\n  \
+then all again.\n\
+- One entry: the play is of the last entry, by a replica with almost 20,000 rows; its one write is of a cell that has a row, or of one\n  \
+whose row comes before all others.\n\
 - The append is of an update with the number of the last entry, in place of it.\n\n\
 A place of the table has the nanoseconds of the proved library for each entry; then, how many times those on the log beside they are,\n\
 and how many times those of plain Rust on the same log. A point that takes over {limit} s is ended, and longer logs of its row are left\n\

@@ -28,6 +28,8 @@ pub struct Made {
     pub log: Vec<u8>,
     /// The number of the update with which the append is measured.
     pub number: u32,
+    /// The record and the table with which the play is measured; a fresh one without them.
+    pub replica: Option<(Record, Vec<u8>)>,
 }
 
 /// A growing log.
@@ -61,6 +63,7 @@ pub fn workload(slots: usize, seed: u64, stride: u32) -> Made {
     Made {
         log: depots.writer.log,
         number: depots.last_number + stride,
+        replica: None,
     }
 }
 

@@ -1,8 +1,8 @@
 //! Logs that are made to be slow, each beside one of the same kind that is not: transaction numbers that share a place in some
-//! table, checkpoints of objects with many keys, entries full of writes.
+//! table, checkpoints of objects with many keys, entries full of writes, cells whose rows come before those that are there.
 
 use reference::append::{Request, Writer};
-use reference::objects::set_of;
+use reference::objects::{set_of, OBJECTS};
 use reference::replica::Record;
 use reference::sample::{commit, put, table_of, update};
 use reference::slot::{Write, MOST_ITEMS};
@@ -40,9 +40,11 @@ const IN_ORDER: &str = "numbers 1, 2, 3, ..";
 const FEW: &str = "numbers 1 to 32";
 const REGISTER: &str = "checkpoints of object 8";
 const CELLS: &str = "12 writes of 12 cells in each update";
+const ASCENDING: &str = "new cells ascending";
+const NONE_NEW: &str = "one entry played on 20,000 rows, no new cell";
 
 /// Numbers of transactions go up to 2^32 - 1, which leaves 65,536 of each remainder by 65,536: as many as the longest log needs.
-pub const LOGS: [Log; 19] = [
+pub const LOGS: [Log; 24] = [
     plain(IN_ORDER, |size| transactions(size, |i, _| i + 1)),
     plain(FEW, |size| in_turn(size, |i| i + 1)),
     plain(REGISTER, |size| checkpoints(size, 8, 0)),
@@ -94,6 +96,20 @@ pub const LOGS: [Log; 19] = [
     slow("12 writes of one cell in each update", CELLS, |size| {
         writes(size, |_, _| 7)
     }),
+    plain(ASCENDING, |size| growing(size, |place, _| place)),
+    slow("new cells descending", ASCENDING, |size| {
+        growing(size, |place, cells| cells - 1 - place)
+    }),
+    // 7,919 is a prime that does not divide the number of cells.
+    slow("new cells in mixed order", ASCENDING, |size| {
+        growing(size, |place, cells| place * 7_919 % cells)
+    }),
+    plain(NONE_NEW, |size| one_entry(size, 1)),
+    slow(
+        "one entry played on 20,000 rows, a new cell before them",
+        NONE_NEW,
+        |size| one_entry(size, 0),
+    ),
 ];
 
 /// The log of a name.
@@ -128,6 +144,7 @@ impl Growing {
         Made {
             log: self.writer.log,
             number: self.number,
+            replica: None,
         }
     }
 }
@@ -213,6 +230,60 @@ fn writes(size: usize, key: fn(u32, u32) -> u32) -> Made {
         log.append(0, &update(0, &writes));
     }
     log.made()
+}
+
+/// All cells of the directory, ascending.
+fn cells() -> Vec<(u32, u32)> {
+    OBJECTS
+        .iter()
+        .flat_map(|object| (0..=object.highest_key).map(|key| (object.id, key)))
+        .collect()
+}
+
+/// Plain updates that write all cells, one after another, and then all again; the cell comes from its place among them and their
+/// number. An update has 12 writes, or fewer where another would be of a fifth object.
+fn growing(size: usize, cell: fn(usize, usize) -> usize) -> Made {
+    let cells = cells();
+    let mut log = Growing::new(size);
+    let mut place = 0;
+    while log.writer.tail < size {
+        let (mut writes, mut objects) = (Vec::new(), 0_u8);
+        while writes.len() < MOST_ITEMS {
+            let (object, key) = cells[cell(place % cells.len(), cells.len())];
+            objects |= set_of(object);
+            if objects.count_ones() > 4 {
+                break;
+            }
+            writes.push(put(object, key, place as u32));
+            place += 1;
+        }
+        log.append(0, &update(0, &writes));
+    }
+    log.made()
+}
+
+/// Plain updates of object 2, and at the end one of this key of object 1. A replica of objects 1 and 5 stands below that one, with a
+/// row for each of their cells but the first: 19,999.
+fn one_entry(size: usize, key: u32) -> Made {
+    let mut log = Growing::new(size);
+    for entry in 1..size as u32 {
+        log.append(0, &update(0, &[put(2, entry % 500, entry)]));
+    }
+    log.append(0, &update(0, &[put(1, key, 1)]));
+    let rows: Vec<Row> = cells()
+        .into_iter()
+        .filter(|&(object, key)| object == 5 || object == 1 && key > 0)
+        .map(|(object, key)| Row::of(object, key, Some(key), 1))
+        .collect();
+    let record = Record {
+        hosted: set_of(1) | set_of(5),
+        position: size as u64 - 1,
+        count: rows.len() as u64,
+    };
+    Made {
+        replica: Some((record, table_of(&rows))),
+        ..log.made()
+    }
 }
 
 /// Each step can be undone, so different numbers stay different, and only 0 gives 0.

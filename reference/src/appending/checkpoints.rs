@@ -14,10 +14,10 @@ pub fn cases() -> Vec<Case> {
         objects(),
         keys(),
         versions(),
-        repeated(),
+        disorder(),
         present_fields(),
         counts(),
-        key_order(),
+        many_objects(),
         positions(),
         no_slots(),
         full(),
@@ -126,16 +126,16 @@ fn keys() -> Case {
     }
     let (good, bad) = (Row::of(2, 7, Some(1), 3), Row::of(2, 500, None, 3));
     asking.refused(3, by_all(2, 3, &[good, bad]));
-    asking.refused(3, by_all(2, 3, &[bad, good]));
-    // Rows of other objects, listed or not, are not judged.
+    asking.refused(10, by_all(2, 3, &[bad, good]));
+    // Rows of other objects, listed or not, are judged by their order alone.
     let others = [
         Row::of(0, 7, Some(1), 0),
-        Row::of(3, 500, Some(1), 0),
         good,
+        Row::of(3, 500, Some(1), 0),
+        Row::of(6, 7, None, 1 << 63),
         Row::of(9, 0, Some(1), u64::MAX),
         Row::of(0x0200_0000, 7, Some(2), 1),
         Row::of(0x8000_0002, 7, Some(2), 1),
-        Row::of(6, 7, None, 1 << 63),
     ];
     asking.done(by_all(2, 3, &others));
     asking.done(by_all(8, 4, &others));
@@ -163,8 +163,8 @@ fn versions() -> Case {
         }
         let rows = [
             Row::of(5, 1, Some(1), 1),
-            Row::of(5, 3, None, version),
-            Row::of(5, 2, Some(1), 3),
+            Row::of(5, 2, None, version),
+            Row::of(5, 3, Some(1), 3),
         ];
         asking.refused(3, by_all(5, 3, &rows));
     }
@@ -178,23 +178,36 @@ fn versions() -> Case {
     asking.case()
 }
 
-/// Rows that repeat a cell (7.7).
-fn repeated() -> Case {
-    let mut asking = Asking::on("checkpoint: repeated cells", with_junk(&base(), 4), 3);
-    let row = Row::of(2, 7, Some(41), 2);
-    let gone = Row::of(2, 7, None, 3);
-    let other = Row::of(2, 8, Some(5), 1);
-    let late = Row::of(2, 7, Some(1), 4);
-    let never = Row::of(2, 7, Some(1), 0);
-    asking.refused(3, by_all(2, 3, &[late, row]));
-    asking.refused(3, by_all(2, 3, &[other, never, row, other]));
-    asking.done(by_all(2, 3, &[row, gone, late]));
-    asking.done(by_all(2, 4, &[gone, other, never, row, other]));
-    asking.done(by_all(2, 5, &[row, row, row, other, gone, late, never]));
-    // Thirteen rows of twelve cells; the second of a cell has no good version.
-    let mut rows = cells(12);
-    rows.insert(3, Row::of(5, 0, None, u64::MAX));
-    asking.done(by_all(5, 6, &rows));
+/// 10 where the counted rows do not ascend strictly (7.9), whatever they name; those past the count are not judged.
+fn disorder() -> Case {
+    let mut asking = Asking::on("checkpoint: rows out of order", with_junk(&base(), 5), 3);
+    let (three, nine) = (Row::of(2, 3, Some(5), 2), Row::of(2, 9, None, 3));
+    let late = Row::of(2, 3, Some(5), 4);
+    asking.refused(10, by_all(2, 3, &[nine, three]));
+    asking.refused(10, by_all(2, 3, &[three, three]));
+    asking.refused(10, by_all(2, 3, &[three, late]));
+    asking.refused(10, by_all(2, 3, &[three, nine, nine]));
+    asking.refused(10, by_all(2, 3, &[three, nine, three]));
+    // Of other objects, with objects and keys of any size.
+    let (four, five) = (Row::of(4, 9, Some(1), 1), Row::of(5, 0, Some(1), 1));
+    let (high, top) = (
+        Row::of(0x8000_0002, 0, None, 0),
+        Row::of(2, u32::MAX, None, 1),
+    );
+    asking.refused(10, by_all(2, 3, &[three, five, four]));
+    asking.refused(10, by_all(2, 3, &[high, three]));
+    asking.refused(10, by_all(8, 3, &[top, nine]));
+    asking.refused(10, of(2, 3, 3, &table_of(&[three, five, four]), 2));
+    // Before 3 and 14.
+    asking.refused(10, by_all(9, 3, &[nine, three]));
+    asking.refused(10, of(4, 3, 2, &table_of(&[nine, three]), 2));
+    asking.refused(10, by_all(2, 1, &[late, late]));
+    // The same rows, counted up to where they ascend.
+    asking.done(of(0xFF, 3, 1, &table_of(&[nine, three]), 2));
+    asking.done(of(0xFF, 4, 2, &table_of(&[three, nine, nine]), 2));
+    asking.done(of(0xFF, 5, 2, &table_of(&[three, five, four]), 5));
+    asking.done(by_all(2, 6, &[three, nine, four, five, high]));
+    asking.refused(3, by_all(2, 7, &[three, nine, top]));
     asking.case()
 }
 
@@ -243,9 +256,8 @@ fn counts() -> Case {
     asking.done(by_all(5, 5, &cells(1)));
     asking.done(by_all(5, 6, &[]));
     // Rows of other objects, and those past the count, are no cells of it.
-    let mut mixed = cells(12);
-    mixed.extend((0..8).map(|key| Row::of(4, key, Some(1), 1)));
-    mixed.extend(&cells(20)[12..]);
+    let mut mixed: Vec<Row> = (0..8).map(|key| Row::of(4, key, Some(1), 1)).collect();
+    mixed.extend(cells(20));
     let table = table_of(&mixed);
     asking.refused(13, of(0xFF, 7, 21, &table, 5));
     asking.done(of(0xFF, 7, 20, &table, 5));
@@ -253,23 +265,29 @@ fn counts() -> Case {
     asking.case()
 }
 
-/// By ascending key, whatever the order of the rows (6.8).
-fn key_order() -> Case {
-    let mut asking = Asking::on("checkpoint: rows in any order", with_junk(&base(), 4), 3);
-    let mut rows: Vec<Row> = [0, 1, 255, 256, 511, 4096, 9998, 9999]
-        .into_iter()
-        .map(|key| Row::of(1, key, (key % 5 != 0).then_some(key), 3))
-        .collect();
-    rows.reverse();
+/// The object's rows between those of others (6.8).
+fn many_objects() -> Case {
+    let mut asking = Asking::on(
+        "checkpoint: one object of several",
+        with_junk(&base(), 4),
+        3,
+    );
+    let keys = [0, 1, 255, 256, 511, 4096, 9998, 9999];
+    let of_object = |object| {
+        keys.map(|key| Row::of(object, key, (key % 5 != 0).then_some(key), 3))
+            .into_iter()
+    };
+    let mut rows: Vec<Row> = of_object(1).collect();
     asking.done(by_all(1, 3, &rows));
-    rows.rotate_left(3);
-    rows.swap(0, 6);
+    rows.extend(of_object(3));
+    rows.extend(of_object(5).rev());
+    asking.refused(10, by_all(1, 4, &rows));
+    rows[16..].reverse();
     asking.done(by_all(1, 4, &rows));
-    rows.swap(1, 2);
-    rows.insert(4, Row::of(5, 0, Some(1), 1));
-    rows.push(Row::of(5, 9999, Some(1), 1));
-    asking.done(by_all(1, 5, &rows));
-    asking.done(by_all(5, 6, &rows));
+    // Its keys are over the highest.
+    asking.refused(3, by_all(3, 5, &rows));
+    asking.done(by_all(5, 5, &rows));
+    asking.done(by_all(4, 6, &rows));
     asking.case()
 }
 

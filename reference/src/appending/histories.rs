@@ -15,7 +15,7 @@ fn history(seed: u64) -> Case {
         open: 2,
         ..Mix::rough()
     };
-    let mut history = History::new(80_422 + seed, 0, mix);
+    let mut history = History::new(82_283 + seed, 0, mix);
     let slots = slots(&mut history.random);
     history.writer.log = match seed % 4 {
         0 => vec![0; slots * SLOT],

@@ -162,7 +162,7 @@ fn decision_order() -> Order {
     }
 }
 
-/// 10 is met by the count, which excludes nothing else.
+/// 10 is met by the count or, of many rows, by their order; neither excludes anything else.
 fn checkpoint_order() -> Order {
     Order {
         name: "checkpoint",
@@ -181,11 +181,15 @@ fn checkpoint_order() -> Order {
             if *field {
                 rows.last_mut()?.version = 4;
             }
+            let disorder = *replica && *many;
+            if disorder {
+                rows.swap(5, 6);
+            }
             Some(Request::Checkpoint {
                 record: Record {
                     hosted: 0x10,
                     position: if *behind { 2 } else { 3 },
-                    count: rows.len() as u64 + u64::from(*replica),
+                    count: rows.len() as u64 + u64::from(*replica && !disorder),
                 },
                 table: table_of(&rows),
                 object: 5,

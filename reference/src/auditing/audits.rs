@@ -95,11 +95,12 @@ fn tails() -> Case {
     asking.never(5, 1);
     asking.plays(7, 6, 4);
     asking.holds(5, 1, 2, 6);
-    asking.row(0, 2, 7, None, 2);
-    asking.row(1, 2, 3, Some(6), 6);
-    asking.row(2, 2, 4, Some(1), 6);
+    asking.row(0, 2, 3, Some(6), 6);
+    asking.row(1, 2, 4, Some(1), 6);
+    asking.row(2, 2, 7, None, 2);
     asking.row(3, 5, 1, Some(2), 6);
-    asking.row(4, 2, 9, Some(9), 7);
+    // Left by the audit of all.
+    asking.row(4, 5, 1, Some(2), 6);
     asking.case()
 }
 
@@ -127,8 +128,8 @@ fn true_records() -> Case {
     }
     asking.holds(3, 1, 7, 4);
     asking.never(3, 3);
-    asking.row(0, 3, 2, Some(1), 2);
-    asking.row(1, 3, 1, Some(7), 4);
+    asking.row(0, 3, 1, Some(7), 4);
+    asking.row(1, 3, 2, Some(1), 2);
     asking.case()
 }
 
@@ -176,8 +177,8 @@ fn decided_at_its_commit() -> Case {
     asking.audits(8, 2);
     asking.holds(3, 1, 2, 6);
     asking.holds(2, 1, 1, 3);
-    asking.row(0, 3, 1, Some(2), 6);
-    asking.row(1, 2, 1, Some(1), 3);
+    asking.row(0, 2, 1, Some(1), 3);
+    asking.row(1, 3, 1, Some(2), 6);
     asking.case()
 }
 

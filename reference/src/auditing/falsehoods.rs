@@ -40,8 +40,8 @@ fn false_commit() -> Case {
     // The scratch is as played: the decision record is not believed.
     asking.never(2, 2);
     asking.holds(2, 1, 2, 3);
-    asking.row(0, 3, 1, Some(1), 1);
-    asking.row(1, 2, 1, Some(2), 3);
+    asking.row(0, 2, 1, Some(2), 3);
+    asking.row(1, 3, 1, Some(1), 1);
     asking.case()
 }
 
@@ -52,8 +52,8 @@ fn false_abort() -> Case {
     asking.audits(6, 2);
     asking.finds(7, 6, 2);
     asking.holds(2, 1, 2, 3);
-    asking.row(0, 3, 1, Some(1), 1);
-    asking.row(1, 2, 1, Some(2), 3);
+    asking.row(0, 2, 1, Some(2), 3);
+    asking.row(1, 3, 1, Some(1), 1);
     asking.case()
 }
 
@@ -90,8 +90,8 @@ fn lowest_of_several() -> Case {
     for tail in [7, 8, 9, 10] {
         asking.finds(tail, 6, 2);
     }
-    asking.row(0, 3, 1, Some(1), 1);
-    asking.row(1, 2, 1, Some(2), 3);
+    asking.row(0, 2, 1, Some(2), 3);
+    asking.row(1, 3, 1, Some(1), 1);
     asking.case()
 }
 
@@ -107,8 +107,8 @@ fn no_room_first(length: usize) -> Case {
     let name = format!("13 before 11, a table of {length} bytes");
     let mut asking = Asking::on(&name, log_of(&requests), junk(length));
     asking.finds(7, 5, 2);
-    asking.row(0, 3, 1, Some(1), 1);
-    asking.row(1, 2, 1, Some(2), 3);
+    asking.row(0, 2, 1, Some(2), 3);
+    asking.row(1, 3, 1, Some(1), 1);
     if length < 72 {
         asking.lacks(8, 7, 2);
         asking.lacks(9, 7, 2);
@@ -164,8 +164,8 @@ fn false_checkpoints() -> Vec<Case> {
             let mut asking = Asking::on(&name, log, junk(48));
             asking.audits(3, 2);
             asking.finds(4, 3, 2);
-            asking.row(0, 5, 2, Some(8), 1);
-            asking.row(1, 5, 1, None, 2);
+            asking.row(0, 5, 1, None, 2);
+            asking.row(1, 5, 2, Some(8), 1);
             asking.case()
         })
         .collect()

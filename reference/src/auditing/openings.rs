@@ -2,7 +2,7 @@
 
 use crate::append::Request;
 use crate::appending::junk;
-use crate::playing::{Asking, Case};
+use crate::playing::{record, Asking, Case};
 use crate::sample::*;
 use crate::slot::{ABORT, COMMIT};
 use crate::table::Row;
@@ -17,6 +17,7 @@ pub fn cases() -> Vec<Case> {
         empty_checkpoints(),
         registers(),
         one_after_another(),
+        not_counted(),
     ];
     for length in [0, 23, 47, 48, 71, 72] {
         cases.push(rooms_of_two(length));
@@ -56,8 +57,8 @@ fn set_aside_before() -> Case {
     asking.plays(7, 7, 4);
     asking.holds(2, 9, 9, 7);
     asking.row(0, 2, 3, Some(6), 6);
-    asking.row(1, 2, 7, None, 2);
-    asking.row(2, 2, 4, Some(1), 6);
+    asking.row(1, 2, 4, Some(1), 6);
+    asking.row(2, 2, 7, None, 2);
     asking.row(3, 2, 9, Some(9), 7);
     asking.case()
 }
@@ -84,8 +85,8 @@ fn set_aside_again() -> Case {
     asking.plays(8, 8, 3);
     asking.holds(3, 2, 2, 8);
     asking.row(0, 3, 1, Some(3), 5);
-    asking.row(1, 3, 4, None, 5);
-    asking.row(2, 3, 2, Some(2), 8);
+    asking.row(1, 3, 2, Some(2), 8);
+    asking.row(2, 3, 4, None, 5);
     asking.case()
 }
 
@@ -102,7 +103,7 @@ fn older_tails() -> Case {
     asking.never(2, 4);
     asking.row(0, 2, 3, Some(5), 1);
     asking.row(1, 2, 7, None, 2);
-    asking.row(2, 2, 4, Some(1), 6);
+    asking.row(2, 2, 7, None, 2);
     asking.case()
 }
 
@@ -146,8 +147,8 @@ fn false_checkpoint() -> Case {
     asking.finds(4, 1, 1);
     asking.holds(2, 1, 1, 1);
     asking.row(0, 2, 1, Some(1), 1);
-    asking.row(1, 2, 6, None, 1);
-    asking.row(2, 2, 1, Some(4), 4);
+    asking.row(1, 2, 5, Some(9), 1);
+    asking.row(2, 2, 6, None, 1);
     asking.case()
 }
 
@@ -220,11 +221,36 @@ fn one_after_another() -> Case {
     asking.opens(2);
     asking.plays(7, 3, 2);
     asking.removed(2, 7, 2);
-    asking.row(0, 2, 7, None, 2);
-    asking.row(1, 2, 3, Some(5), 1);
-    asking.row(2, 2, 4, Some(1), 6);
-    asking.row(3, 5, 1, Some(2), 6);
-    asking.row(4, 2, 9, Some(9), 7);
+    asking.row(0, 2, 3, Some(5), 1);
+    asking.row(1, 2, 7, None, 2);
+    // Past the count, as the first play left them.
+    asking.row(2, 2, 7, None, 2);
+    asking.row(3, 2, 9, Some(9), 7);
+    asking.row(4, 5, 1, Some(2), 6);
+    asking.case()
+}
+
+/// A fresh replica, an audit and an opening at a checkpoint look at no row of the table lent to them.
+fn not_counted() -> Case {
+    let log = log_of(&[
+        update(0, &[put(2, 9, 4)]),
+        checkpoint_of(2, 1, &[Row::of(2, 9, Some(4), 1)]),
+        update(0, &[put(2, 3, 5)]),
+    ]);
+    let (three, nine) = (Row::of(2, 3, Some(7), 1), Row::of(2, 9, Some(7), 1));
+    let table = table_of(&[nine, three, nine]);
+    let name = "disorder where rows are not counted";
+    let mut asking = Asking::with(name, log, table, record(2, 3, 3));
+    asking.refuses(3, 3, 10);
+    asking.restores(3, 1, 2, 1);
+    asking.holds(2, 9, 4, 1);
+    asking.audits(3, 2);
+    asking.holds(2, 3, 5, 3);
+    asking.opens(2);
+    asking.plays(3, 0, 0);
+    asking.plays(3, 1, 1);
+    asking.row(0, 2, 9, Some(4), 1);
+    asking.row(1, 2, 9, Some(4), 1);
     asking.case()
 }
 
@@ -287,7 +313,7 @@ fn room_to_play_on(length: usize) -> Case {
     asking.stops(7, 7, 13, 6, 3);
     asking.holds(2, 3, 6, 6);
     asking.row(0, 2, 3, Some(6), 6);
-    asking.row(1, 2, 7, None, 2);
-    asking.row(2, 2, 4, Some(1), 6);
+    asking.row(1, 2, 4, Some(1), 6);
+    asking.row(2, 2, 7, None, 2);
     asking.case()
 }

@@ -74,11 +74,11 @@ fn frames(length: usize) -> Case {
     if length.is_multiple_of(SLOT) {
         asking.restores(7, 3, 2, 2);
         asking.audits(7, 5);
-        asking.row(0, 2, 7, None, 2);
-        asking.row(1, 2, 3, Some(6), 6);
-        asking.row(2, 2, 4, Some(1), 6);
-        asking.row(3, 5, 1, Some(2), 6);
-        asking.row(4, 2, 9, Some(9), 7);
+        asking.row(0, 2, 3, Some(6), 6);
+        asking.row(1, 2, 4, Some(1), 6);
+        asking.row(2, 2, 7, None, 2);
+        asking.row(3, 2, 9, Some(9), 7);
+        asking.row(4, 5, 1, Some(2), 6);
     } else {
         asking.restores_not(6, 3, 1, None);
         asking.audits_not(6, 1, None);
@@ -100,8 +100,8 @@ fn bad_entry() -> Case {
     asking.restores_not(7, 7, 2, Some(4));
     asking.restores(4, 3, 2, 2);
     asking.audits(4, 2);
-    asking.row(0, 2, 7, None, 2);
-    asking.row(1, 2, 3, Some(5), 1);
+    asking.row(0, 2, 3, Some(5), 1);
+    asking.row(1, 2, 7, None, 2);
     asking.case()
 }
 

@@ -47,8 +47,8 @@ fn false_decisions() -> Case {
     asking.holds(3, 1, 1, 1);
     asking.holds(2, 1, 2, 3);
     asking.never(2, 2);
-    asking.row(0, 3, 1, Some(1), 1);
-    asking.row(1, 2, 1, Some(2), 3);
+    asking.row(0, 2, 1, Some(2), 3);
+    asking.row(1, 3, 1, Some(1), 1);
     asking.case()
 }
 
@@ -77,7 +77,7 @@ fn own_cells() -> Case {
     asking.plays(7, 7, 1);
     asking.never(2, 2);
     asking.row(0, 2, 1, Some(2), 3);
-    asking.row(1, 2, 1, Some(2), 3);
+    asking.row(1, 3, 1, Some(1), 1);
     asking.case()
 }
 
@@ -187,9 +187,9 @@ fn later_decisions() -> Case {
     asking.holds(5, 1, 2, 3);
     asking.plays(8, 8, 3);
     asking.holds(1, 1, 4, 7);
-    asking.row(0, 5, 1, Some(1), 4);
-    asking.row(1, 5, 2, Some(3), 5);
-    asking.row(2, 1, 1, Some(4), 7);
+    asking.row(0, 1, 1, Some(4), 7);
+    asking.row(1, 5, 1, Some(1), 4);
+    asking.row(2, 5, 2, Some(3), 5);
     asking.case()
 }
 
@@ -244,8 +244,8 @@ fn aborted_versions() -> Case {
     asking.holds(2, 2, 5, 9);
     asking.plays(11, 11, 2);
     asking.holds(2, 2, 5, 9);
-    asking.row(0, 2, 2, Some(5), 9);
-    asking.row(1, 2, 1, Some(3), 5);
+    asking.row(0, 2, 1, Some(3), 5);
+    asking.row(1, 2, 2, Some(5), 9);
     asking.case()
 }
 

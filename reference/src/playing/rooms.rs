@@ -18,7 +18,7 @@ pub fn cases() -> Vec<Case> {
         waits_first(),
         not_hosted(),
         mixed_entry(),
-        repeated_rows(),
+        other_rows(),
         twelve(),
     ]);
     cases
@@ -201,15 +201,15 @@ fn mixed_entry() -> Case {
     asking.case()
 }
 
-/// Rows that never count take room all the same.
-fn repeated_rows() -> Case {
+/// Rows that are no cell of the replica take room all the same.
+fn other_rows() -> Case {
     let log = log_of(&[update(0, &[put(2, 1, 1)]), update(0, &[put(2, 2, 2)])]);
     let table = table_of(&[
         Row::of(2, 1, Some(8), 80),
-        Row::of(2, 1, Some(9), 90),
+        Row::of(2, 500, Some(9), 90),
         Row::of(9, 2, Some(9), 90),
     ]);
-    let name = "repeated rows take room";
+    let name = "rows of no cell take room";
     let mut asking = Asking::with(name, log, table, record(2, 0, 3));
     asking.stops(2, 2, 13, 1, 3);
     asking.holds(2, 1, 1, 1);
@@ -229,7 +229,7 @@ fn twelve() -> Case {
     asking.holds(5, 9988, 11, 1);
     asking.never(1, 9999);
     for key in 0..12 {
-        asking.row(key as usize, 5, 9999 - key, Some(key), 1);
+        asking.row(11 - key as usize, 5, 9999 - key, Some(key), 1);
     }
     asking.case()
 }

@@ -3,13 +3,12 @@
 use crate::appending::junk;
 use crate::objects::OBJECTS;
 use crate::sample::*;
-use crate::table::Row;
+use crate::table::{row, Row};
 
 use super::{record, Asking, Case};
 
 pub fn cases() -> Vec<Case> {
     vec![
-        repeated(),
         present_fields(),
         other_rows(),
         any_versions(),
@@ -21,7 +20,7 @@ pub fn cases() -> Vec<Case> {
     ]
 }
 
-fn raw(object: u32, key: u32, value: u32, present: u32, version: u64) -> Row {
+pub fn raw(object: u32, key: u32, value: u32, present: u32, version: u64) -> Row {
     Row {
         object,
         key,
@@ -29,39 +28,6 @@ fn raw(object: u32, key: u32, value: u32, present: u32, version: u64) -> Row {
         present,
         version,
     }
-}
-
-/// Rows that repeat a cell (7.7): play writes the first row and leaves the later one.
-fn repeated() -> Case {
-    let log = log_of(&[
-        update(1, &[put(2, 2, 1)]),
-        commit(1, &[read(2, 1, 0)]),
-        update(2, &[put(2, 2, 2)]),
-        commit(2, &[read(2, 1, 2)]),
-        update(0, &[put(2, 3, 3), put(2, 1, 3)]),
-    ]);
-    let mut table = table_of(&[
-        raw(2, 3, 7, 1, 5),
-        raw(2, 1, 8, 1, 2),
-        raw(2, 1, 9, 1, 0),
-        raw(2, 3, 9, 0, 4),
-    ]);
-    table.extend(junk(30));
-    let name = "repeated cells";
-    let mut asking = Asking::with(name, log, table, record(2, 0, 4));
-    asking.holds(2, 1, 8, 2);
-    asking.holds(2, 3, 7, 5);
-    asking.plays(5, 2, 4);
-    asking.never(2, 2);
-    asking.plays(5, 4, 5);
-    asking.holds(2, 2, 2, 4);
-    asking.plays(5, 5, 5);
-    asking.holds(2, 1, 3, 5);
-    asking.holds(2, 3, 3, 5);
-    asking.row(0, 2, 3, Some(3), 5);
-    asking.row(1, 2, 1, Some(3), 5);
-    asking.row(4, 2, 2, Some(2), 4);
-    asking.case()
 }
 
 /// Present fields other than 1 (7.6); the row stays until its cell is written.
@@ -99,7 +65,7 @@ fn present_fields() -> Case {
     asking.case()
 }
 
-/// Rows of objects not hosted or not listed, and keys over the highest: never matched or changed.
+/// Rows of objects not hosted or not listed, and keys over the highest: never matched, and moved whole.
 fn other_rows() -> Case {
     let log = log_of(&[
         update(0, &[put(2, 1, 1), put(3, 1, 1)]),
@@ -107,16 +73,17 @@ fn other_rows() -> Case {
         commit(1, &[read(3, 1, 1)]),
         update(0, &[put(2, 3, 3)]),
     ]);
-    let mut table = table_of(&[
-        raw(3, 1, 9, 1, 1),
+    let rows = [
         raw(0, 1, 9, 1, 1),
+        raw(2, 500, 9, 7, 0),
+        raw(2, u32::MAX, 9, 1, 1 << 63),
+        raw(3, 1, 9, 1, 1),
         raw(9, 1, 9, 1, 1),
-        raw(0x8000_0002, 1, 9, 1, 1),
-        raw(2, 500, 9, 1, 1),
-        raw(2, u32::MAX, 9, 1, 1),
-        raw(u32::MAX, 3, 9, 1, 1),
         raw(258, 3, 9, 1, 1),
-    ]);
+        raw(0x8000_0002, 1, 9, 1, 1),
+        raw(u32::MAX, 3, 9, 1, 1),
+    ];
+    let mut table = table_of(&rows);
     table.extend(junk(60));
     let name = "rows of other objects";
     let mut asking = Asking::with(name, log, table, record(2, 0, 8));
@@ -127,7 +94,10 @@ fn other_rows() -> Case {
     asking.no_cell(3, 1, 3);
     asking.no_cell(2, 500, 3);
     asking.no_cell(9, 1, 3);
-    asking.row(8, 2, 1, Some(1), 1);
+    asking.row(1, 2, 1, Some(1), 1);
+    for (place, row) in rows.into_iter().enumerate().skip(1) {
+        asking.moved(place + 1, row);
+    }
     asking.case()
 }
 
@@ -197,16 +167,24 @@ fn past_the_count() -> Case {
     asking.case()
 }
 
-/// A counted table of junk bytes: no row is a cell.
+/// A counted table of junk bytes that ascends: no row is a cell.
 fn junk_counted() -> Case {
     let log = log_of(&bench());
+    let mut table = junk(100);
+    for place in 0..3 {
+        table[24 * place] = 0x70 + 8 * place as u8;
+    }
+    let rows = [0, 1, 2].map(|place| row(&table, place));
     let name = "junk counted";
-    let mut asking = Asking::with(name, log, junk(100), record(255, 0, 3));
+    let mut asking = Asking::with(name, log, table, record(255, 0, 3));
     asking.never(2, 7);
     asking.plays(5, 5, 4);
     asking.holds(2, 7, 42, 4);
     asking.never(1, 0);
-    asking.row(3, 2, 7, Some(42), 4);
+    asking.row(0, 2, 7, Some(42), 4);
+    for (place, row) in rows.into_iter().enumerate() {
+        asking.moved(place + 1, row);
+    }
     asking.case()
 }
 
@@ -266,10 +244,13 @@ fn edges_of_objects() -> Case {
 fn edges_of_keys() -> Case {
     let table = table_of(
         &OBJECTS
-            .map(|object| raw(object.id, object.highest_key, 40 + object.id, 1, 1))
-            .into_iter()
-            .chain(OBJECTS.map(|object| raw(object.id, object.highest_key + 1, 1, 1, 1)))
-            .collect::<Vec<_>>(),
+            .map(|object| {
+                [
+                    raw(object.id, object.highest_key, 40 + object.id, 1, 1),
+                    raw(object.id, object.highest_key + 1, 1, 1, 1),
+                ]
+            })
+            .concat(),
     );
     let name = "cell reading at the highest keys";
     let mut asking = Asking::with(name, vec![], table, record(255, 3, 16));

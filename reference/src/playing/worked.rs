@@ -191,11 +191,11 @@ fn instalments(whole: bool) -> Case {
     asking.holds(4, 1, 2, 7);
     asking.holds(4, 2, 5, 6);
     asking.removed(5, 3, 7);
-    asking.row(0, 5, 3, None, 7);
-    asking.row(1, 2, 1, Some(4), 7);
-    asking.row(2, 4, 2, Some(5), 6);
-    asking.row(3, 2, 2, Some(6), 8);
-    asking.row(4, 4, 1, Some(2), 7);
-    asking.row(5, 2, 3, Some(6), 8);
+    asking.row(0, 2, 1, Some(4), 7);
+    asking.row(1, 2, 2, Some(6), 8);
+    asking.row(2, 2, 3, Some(6), 8);
+    asking.row(3, 4, 1, Some(2), 7);
+    asking.row(4, 4, 2, Some(5), 6);
+    asking.row(5, 5, 3, None, 7);
     asking.case()
 }

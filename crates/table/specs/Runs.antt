@@ -1,0 +1,126 @@
+-- A table while a call plays: a main run of rows in order and, right behind it, a second one of new rows as they came, no cell twice.
+use mathlib.Core.Path.{_≡_}
+use mathlib.Core.Bool.{Bool, true}
+use mathlib.Core.List.{List, [], _∷_, _++_, map}
+use Prim.Native.Nat.{ℕ, _+_, _-_, _*_, _/_, _≤_, _<_}
+use lib.Dec.{eqb}
+use lib.ListN.{length, getD, take, drop}
+use Rattle.lists.specs.Sets.{all}
+use Rattle.model.specs.Entries.{Held}
+use Rattle.model.specs.Table.{Cell, cellsOf, tableWith, inOrder, store, cellSize}
+use Rattle.laws.specs.FirstWriting.{insertCell}
+use Rattle.laws.proofs.Ordered.{once}
+use Rattle.table.specs.Rows.{rowIn}
+use Rattle.tree.specs.Tree.{Tree}
+use Rattle.table.specs.Order.{rankOf, rowsOf, ofObject}
+use Rattle.table.specs.Seek.{cellForm}
+
+-- a row put in at a place
+abbrev pub insertAt : List Cell → ℕ → Cell → List Cell
+insertAt cs i c = take i cs ++ c ∷ drop i cs
+
+-- the rows of the second run put into the main one
+unfoldable pub merged : List Cell → List Cell → List Cell
+merged a [] = a
+merged a (c ∷ b) = insertCell c (merged a b)
+
+-- no cell of the second run has a row in the main one
+unfoldable pub apart : List Cell → List Cell → Bool
+apart a b = all (λ c. eqb (rowIn a c.object c.key) 0) b
+
+pub record Runs (a b : List Cell) : Type 0 where
+  pub main : inOrder a ≡ true
+  pub second : once b ≡ true
+  pub alone : apart a b ≡ true
+
+-- how many rows the second run has: the last number of the index
+abbrev pub used : List ℕ → ℕ
+used x = getD x (length x - 1) 0
+
+-- how a table stands while a call plays: the rows of the main run, all rows, and the index of the others
+pub record Standing : Type 0 where
+  pub main : ℕ
+  pub count : ℕ
+  pub index : List ℕ
+
+abbrev pub standing : ℕ → List ℕ → Standing
+standing count x = record { main = count - used x; count = count; index = x }
+
+abbrev pub mainRun : List ℕ → Standing → List Cell
+mainRun t s = cellsOf t (s .main)
+
+abbrev pub secondRun : List ℕ → Standing → List Cell
+secondRun t s = rowsOf t (s .main) (s .count - s .main)
+
+-- the table's cells in order
+unfoldable pub bothRuns : List ℕ → Standing → List Cell
+bothRuns t s = merged (mainRun t s) (secondRun t s)
+
+-- ---- the index
+
+-- an index is a lent array. Its first quarter holds the heads of a tree, the second the children of its nodes, the third hints, which
+-- may be any numbers. The last numbers of all count the rows: of each of the objects 1 to 8, and all.
+abbrev pub headsIn : List ℕ → ℕ
+headsIn x = length x / 4
+
+-- how many rows it has room for
+abbrev pub mostNew : List ℕ → ℕ
+mostNew x = length x / 8
+
+-- how many objects have a count of their own
+abbrev pub counted : ℕ
+counted = 8
+
+-- where the count of object o stands
+abbrev pub countAt : List ℕ → ℕ → ℕ
+countAt x o = length x - (counted + 2) + o
+
+-- the rank of the row at place i
+abbrev pub rankIn : List Cell → ℕ → ℕ
+rankIn b i = getD (map (λ (c : Cell). rankOf (c .object) (c .key)) b) i 0
+
+-- an index of these rows: the node i is the row at place i
+pub record Indexed (x : List ℕ) (b : List Cell) : Type 0 where
+  pub long : 64 ≤ length x
+  pub short : length x < 4294967296
+  pub all : used x ≡ length b
+  pub tree : Tree (rankIn b) (cellForm (headsIn x)) (mostNew x) (length b) x
+  pub counts : (o : ℕ) → 1 ≤ o → o ≤ counted → getD x (countAt x o) 0 ≡ length (ofObject o b)
+
+-- ---- what functions over two runs require and promise
+
+pub record TwoRuns (t : List ℕ) (s : Standing) : Type 0 where
+  pub within : s .main ≤ s .count
+  pub room : cellSize * s .count ≤ length t
+  pub runs : Runs (mainRun t s) (secondRun t s)
+  pub index : Indexed (s .index) (secondRun t s)
+
+-- table t left as t′, with two runs of these cells and the bytes past the counted rows as they were
+pub record LeftAs (t t′ : List ℕ) (s : Standing) (cs : List Cell) : Type 0 where
+  pub two : TwoRuns t′ s
+  pub cells : bothRuns t′ s ≡ cs
+  pub past : drop (cellSize * s .count) t′ ≡ drop (cellSize * s .count) t
+
+-- the table as a call leaves it: these cells in order, and no byte past them touched
+pub record Ended (t t′ : List ℕ) (count : ℕ) (cs : List Cell) : Type 0 where
+  pub bytes : t′ ≡ tableWith t cs
+  pub rows : cellsOf t′ count ≡ cs
+  pub ascends : inOrder cs ≡ true
+  pub size : length cs ≡ count
+
+-- the two made one in the middle of a call, and an index x′ of no rows
+pub record Renewed (t t′ : List ℕ) (s : Standing) (x′ : List ℕ) : Type 0 where
+  pub left : LeftAs t t′ (standing (s .count) x′) (bothRuns t s)
+  pub none : Indexed x′ []
+
+-- there is room for the cells once this one is written
+pub record CellToPut (t : List ℕ) (s : Standing) (o k : ℕ) (h : Held) : Type 0 where
+  pub two : TwoRuns t s
+  pub room : cellSize * length (store (bothRuns t s) o k h) ≤ length t
+
+-- the cell has no row, and there is room for one in the second run
+pub record CellToAdd (t : List ℕ) (s : Standing) (o k : ℕ) : Type 0 where
+  pub two : TwoRuns t s
+  pub fewer : s .count < s .main + mostNew (s .index)
+  pub room : cellSize * s .count + cellSize ≤ length t
+  pub fresh : rowIn (bothRuns t s) o k ≡ 0
