@@ -6,13 +6,18 @@ use lib.ListN.{length, getD, set}
 use Rattle.model.specs.Entries.{Held}
 use Rattle.model.specs.Table.{Cell, cellSize}
 use Rattle.table.specs.Rows.{rowIn, RowPut}
-use Rattle.table.specs.Runs.{headsIn, mostNew, counted, countAt, used, Standing, secondRun, bothRuns, CellToPut, CellToAdd}
+use Rattle.table.specs.Runs.{headsIn, mostNew, counted, countAt, used, Standing, standing, secondRun, bothRuns, LeftAs, CellToPut, CellToAdd}
 use Rattle.table.specs.Indexing.{NewPlace}
 
 -- a place for a hint: behind the tree, and before the counts
 pub record HintAt (x : List ℕ) (r : ℕ) : Type 0 where
   pub low : headsIn x + 2 * mostNew x ≤ r
   pub high : r + (counted + 2) ≤ length x
+
+-- the index is left with other hints alone: a table stands with it as before
+pub record Hinted (x x′ : List ℕ) : Type 0 where
+  pub size : length x′ ≡ length x
+  pub stands : (t t′ : List ℕ) (count : ℕ) (cs : List Cell) → LeftAs t t′ (standing count x) cs → LeftAs t t′ (standing count x′) cs
 
 -- the cell has no row in the second run: its way ends at an empty slot
 pub record NotNew (t : List ℕ) (s : Standing) (slot o k : ℕ) (h : Held) : Type 0 where
