@@ -1,6 +1,7 @@
 pub mod Objects
 pub mod Entries
 pub mod Slot
+pub mod Headers
 pub mod Rules
 pub mod Table
 pub mod Play
