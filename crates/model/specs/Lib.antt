@@ -13,6 +13,7 @@ pub mod Run
 pub mod Histories
 pub mod Terms
 pub mod Claims
+pub mod HeaderClaims
 pub mod Report
 pub mod Worked
 pub mod Literal
