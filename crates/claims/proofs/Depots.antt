@@ -5,6 +5,7 @@ use mathlib.Core.Bool.{true}
 use Rattle.model.specs.Objects.{depots}
 use Rattle.model.specs.Slot.{okShape}
 use Rattle.model.specs.Claims.{Demand1, Demand2, Demand3, AuditsExactly, NeverWaits, OpensAt, OpensWherever}
+use Rattle.model.specs.HeaderClaims.{HeaderRead, TellsWhere, PastIsBad}
 use Rattle.claims.specs.Order.{SameCalls, SameAudits, LeavesInOrder}
 use Rattle.claims.proofs.Demand1.{demand1}
 use Rattle.claims.proofs.Demand2.{demand2}
@@ -13,6 +14,7 @@ use Rattle.claims.proofs.AuditExactly.{audits-exactly}
 use Rattle.claims.proofs.NeverWaits.{never-waits}
 use Rattle.claims.proofs.Opened.{opens-at, opens-wherever}
 use Rattle.claims.proofs.Order.{same-calls, same-audits, leaves-in-order}
+use Rattle.claims.proofs.Headers.{header-reads, tells-where, past-is-bad}
 
 good-shape : okShape depots ≡ true
 good-shape = refl
@@ -46,3 +48,12 @@ same-audits-depots = same-audits depots good-shape
 
 pub in-order-depots : LeavesInOrder depots
 in-order-depots = leaves-in-order depots good-shape
+
+pub header-reads-depots : HeaderRead depots
+header-reads-depots = header-reads depots good-shape
+
+pub tells-where-depots : TellsWhere depots
+tells-where-depots = tells-where depots good-shape
+
+pub past-is-bad-depots : PastIsBad depots
+past-is-bad-depots = past-is-bad depots good-shape

@@ -32,4 +32,5 @@ pub mod Outcomes
 pub mod Demand1
 pub mod Demand2
 pub mod Order
+pub mod Headers
 pub mod Depots

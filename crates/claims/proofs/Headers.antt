@@ -1,0 +1,209 @@
+-- What headers say: a good one tells the object's earlier entries, one past offset 0 is bad, a header has the bytes due exactly when it reads as
+-- the one due, and the reading that went before is this one renamed. The bytes of a good slot are those that append writes; in them no number of
+-- 2 bytes is above the entry's offset.
+use mathlib.Core.Path.{_≡_, refl, ap, ap₂, sym, _∙_}
+use mathlib.Core.Bool.{Bool, true, false, cond}
+use mathlib.Core.List.{List, [], _∷_, _++_, map, append-assoc}
+use Prim.Native.Nat.{ℕ, zero, suc, _+_, _-_, _*_, _/_, _%_, _^_, _≤_, _<_}
+use native.Mathlib.Nat.{add-zero, add-assoc}
+use native.Mathlib.Omega.{arith}
+use lib.Dec.{eqb, leb, ltb}
+use lib.ListN.{length, getD, replicate}
+use borrow.Author.Tests.{eqb-true, ltb-false, le-ltb, lt-ltb, le-leb}
+use Rattle.lists.specs.Tests.{both, clash}
+use Rattle.lists.specs.Sets.{all}
+use Rattle.lists.specs.Members.{all-in}
+use Rattle.lists.specs.Bytes.{beAt, bytesOf, length-bytesOf, beAt-add, beAt-lt}
+use Rattle.lists.specs.Rows.{values}
+use Rattle.model.specs.Objects.{Shape}
+use Rattle.model.specs.Entries.{Entry, Log, headerObjects, numberOf, earlier}
+use Rattle.model.specs.Slot.{farthest, headerOf, slotOf, slot, markOf, itemCount, okShape}
+use Rattle.model.specs.Rules.{goodAt}
+use Rattle.model.specs.Headers.{BackPointer, nothing, at, past, backBy, formatAt, objectAt, farBacks, backsAt, nearBacks, dueFormat, dueBacks}
+use Rattle.model.specs.HeaderClaims.{headerAt, ReadsAs, HeaderRead, nearest, TellsWhere, PastIsBad}
+use Rattle.laws.specs.OldTold.{offsetBack, farTold, nearTold, renamed, OldTold}
+use Rattle.laws.proofs.Sizes.{layout}
+use Rattle.laws.proofs.Slots.{pastNumbers}
+use Rattle.laws.proofs.Headers.{slot-header-at}
+use Rattle.laws.proofs.Appends.{good-bytes}
+use Rattle.laws.proofs.Good.{stored-reads}
+use Rattle.laws.proofs.Backs.{offsetIn, header-small, header-read, load-le}
+
+-- ---- a header as it is read
+
+pub header-reads : (sh : Shape) → okShape sh ≡ true → HeaderRead sh
+header-reads sh k p x qs s i bound small below bytes room = header-read sh.layout (layout sh k .pointers-are) p x bound small qs below s i bytes room
+
+-- ---- what the back-pointers due are
+
+abbrev told : BackPointer → Bool
+told nothing = false
+told (at q) = true
+told past = false
+
+-- the first is the nearest
+first-due : (k : ℕ) → 1 ≤ k → (p : ℕ) (qs : List ℕ) → getD (dueBacks k p qs) 0 nothing ≡ nearest qs
+first-due zero h p qs = absurd (omega arith)
+first-due (suc k) h p [] = refl
+first-due (suc k) h p (q ∷ qs) = go (ltb farthest (p - q)) refl
+  where
+    go : (b : Bool) → ltb farthest (p - q) ≡ b → getD (cond b (farBacks (suc k) q) (nearBacks p (suc k) (q ∷ qs))) 0 nothing ≡ at q
+    go true e = refl
+    go false e = rw (le-leb (p - q) farthest (ltb-false farthest (p - q) e))
+
+none-told : {P : Type 0} (q : ℕ) → nothing ≡ at q → P
+none-told q e = clash false (ap told e) refl
+
+-- one that is an offset is the one at its place
+near-due : (p k : ℕ) (qs : List ℕ) (j q : ℕ) → getD (nearBacks p k qs) j nothing ≡ at q → (j < length qs) × (getD qs j 0 ≡ q)
+near-due p zero qs j q e = none-told q e
+near-due p (suc k) [] zero q e = none-told q e
+near-due p (suc k) [] (suc j) q e = absurd (omega (arith, near-due p k [] j q e .0))
+near-due p (suc k) (r ∷ qs) zero q e = (omega arith, go (leb (p - r) farthest) e)
+  where
+    go : (b : Bool) → cond b (at r) nothing ≡ at q → r ≡ q
+    go true i = ap offsetIn i
+    go false i = none-told q i
+near-due p (suc k) (r ∷ qs) (suc j) q e = let (l, i) = near-due p k qs j q e in (omega arith, i)
+
+nothing-else : (n j : ℕ) → getD (replicate n nothing) j nothing ≡ nothing
+nothing-else zero j = refl
+nothing-else (suc n) zero = refl
+nothing-else (suc n) (suc j) = nothing-else n j
+
+placed-due : (k p : ℕ) (qs : List ℕ) (j q : ℕ) → getD (dueBacks k p qs) j nothing ≡ at q → (j < length qs) × (getD qs j 0 ≡ q)
+placed-due k p [] j q e = near-due p k [] j q e
+placed-due k p (r ∷ qs) j q e = go (ltb farthest (p - r)) j e
+  where
+    go : (b : Bool) (j : ℕ) → getD (cond b (farBacks k r) (nearBacks p k (r ∷ qs))) j nothing ≡ at q → (j < length (r ∷ qs)) × (getD (r ∷ qs) j 0 ≡ q)
+    go true zero i = (omega arith, ap offsetIn i)
+    go true (suc j) i = none-told q (sym (nothing-else (k - 1) j) ∙ i)
+    go false j i = near-due p k (r ∷ qs) j q i
+
+-- ---- in a good entry
+
+pub tells-where : (sh : Shape) → okShape sh ≡ true → TellsWhere sh
+tells-where sh k log p j bound good h =
+    let s : List ℕ = slot sh.layout (log .used) p in
+    let i : ℕ = headerAt sh.layout j in
+    let y : ℕ = getD (headerObjects log p (log .entry p)) j 0 in
+    let r : ReadsAs sh.layout p y (earlier log y p) s i = stored-reads sh k log p (record { good = λ o l. good o (omega arith) }) bound j h in
+    let d : backsAt (sh .layout .pointers) p s i ≡ dueBacks (sh .layout .pointers) p (earlier log (objectAt s i) p) =
+    r .backs ∙ ap (λ (x : ℕ). dueBacks (sh .layout .pointers) p (earlier log x p)) (sym (r .object)) in
+    record {
+      object = r .object;
+      format = r .format ∙ ap (λ (x : ℕ). dueFormat p (earlier log x p)) (sym (r .object));
+      due = d;
+      first = ap (λ (l : List BackPointer). getD l 0 nothing) d
+          ∙ first-due (sh .layout .pointers) (omega (arith, layout sh k .pointers-are)) p (earlier log (objectAt s i) p);
+      others = λ n q e. placed-due (sh .layout .pointers) p (earlier log (objectAt s i) p) n q (sym (ap (λ (l : List BackPointer). getD l n nothing) d) ∙ e);
+    }
+
+-- ---- past offset 0
+
+notPast : BackPointer → Bool
+notPast nothing = true
+notPast (at q) = true
+notPast past = false
+
+back-there : (p d : ℕ) → d ≤ p → notPast (backBy p d) ≡ true
+unfolding notPast
+back-there p d h = rw (le-ltb p d h) (go (eqb d 0))
+  where
+    go : (a : Bool) → notPast (cond a nothing (at (p - d))) ≡ true
+    go true = refl
+    go false = refl
+
+none-past : (n : ℕ) → all notPast (replicate n nothing) ≡ true
+unfolding notPast
+none-past zero = refl
+none-past (suc n) = none-past n
+
+values-there : (g : ℕ → BackPointer) (i n : ℕ) → ((j : ℕ) → i ≤ j → j < i + n → notPast (g j) ≡ true) → all notPast (values g i n) ≡ true
+unfolding values
+values-there g i zero h = refl
+values-there g i (suc n) h = both (h i (omega arith) (omega arith)) (values-there g (suc i) n (λ j l u. h j (omega arith) (omega arith)))
+
+-- distances that are not above p are not past offset 0
+backs-there : (k p : ℕ) (s : List ℕ) (i : ℕ) → ((j : ℕ) → j < k → beAt 2 s (i + 4 + 2 * j) ≤ p) → all notPast (backsAt k p s i) ≡ true
+unfolding backsAt notPast
+backs-there k p s i h = go (eqb (formatAt s i) 1)
+  where
+    g : ℕ → BackPointer
+    g j = backBy p (beAt 2 s (i + 4 + 2 * j))
+
+    go : (b : Bool) → all notPast (cond b (farBacks k (beAt 8 s (i + 4))) (values g 0 k)) ≡ true
+    go true = none-past (k - 1)
+    go false = values-there g 0 k (λ j l u. back-there p (beAt 2 s (i + 4 + 2 * j)) (h j (omega arith)))
+
+-- the header count of a slot is not above the number of its header objects
+count-le : (sh : Shape) (log : Log) (p : ℕ) (e : Entry) → beAt 1 (slotOf sh.layout log p e) 2 ≤ length (headerObjects log p e)
+unfolding slotOf
+count-le sh log p e =
+    load-le 1 (length (headerObjects log p e)) (slotOf sh.layout log p e) (bytesOf 2 (markOf e))
+    (bytesOf 1 (itemCount e) ++ bytesOf 4 (numberOf e) ++ pastNumbers sh.layout log p e) 2 (simp append-assoc) (length-bytesOf 2 (markOf e))
+
+-- no number of 2 bytes in a header that append writes is above p
+made-small : (sh : Shape) → okShape sh ≡ true → (log : Log) (p x n : ℕ) → n < sh .layout .pointers → beAt 2 (headerOf sh.layout log p x) (4 + 2 * n) ≤ p
+unfolding headerOf
+made-small sh k log p x n l = header-small sh.layout (layout sh k .pointers-are) p x (earlier log x p) n l
+
+pub past-is-bad : (sh : Shape) → okShape sh ≡ true → PastIsBad sh
+unfolding notPast
+past-is-bad sh k log p j h m = go (goodAt sh log p) refl
+  where
+    s : List ℕ
+    s = slot sh.layout (log .used) p
+
+    made : List ℕ
+    made = slotOf sh.layout log p (log .entry p)
+
+    small : s ≡ made → (n : ℕ) → n < sh .layout .pointers → beAt 2 s (headerAt sh.layout j + 4 + 2 * n) ≤ p
+    small e n l =
+        let x : ℕ = getD (headerObjects log p (log .entry p)) j 0 in
+        let below : j < length (headerObjects log p (log .entry p)) = omega (arith, ap (λ (t : List ℕ). beAt 1 t 2) e, count-le sh log p (log .entry p)) in
+        let there : beAt 2 s (headerAt sh.layout j + 4 + 2 * n) ≡ beAt 2 (headerOf sh.layout log p x) (4 + 2 * n) =
+        ap₂ (beAt 2) e (add-assoc (headerAt sh.layout j) 4 (2 * n)) ∙ slot-header-at sh k log p (log .entry p) j (4 + 2 * n) 2 below (omega arith) in
+        omega (arith, made-small sh k log p x n l)
+
+    go : (b : Bool) → goodAt sh log p ≡ b → b ≡ false
+    go true g = clash false (all-in notPast _ (backs-there (sh .layout .pointers) p s (headerAt sh.layout j) (small (good-bytes sh log p g))) past m) refl
+    go false g = refl
+
+-- ---- the reading that went before
+
+-- 8 bytes are four numbers of 2
+four-of : (s : List ℕ) (i : ℕ) → beAt 8 s i ≡ beAt 2 s i * 2 ^ 48 + beAt 2 s (i + 2) * 2 ^ 32 + beAt 2 s (i + 4) * 2 ^ 16 + beAt 2 s (i + 6)
+four-of s i = omega (arith, beAt-add 6 2 s i, beAt-add 4 2 s i, beAt-add 2 2 s i)
+
+renamed-back : (p d : ℕ) → renamed (backBy p d) ≡ offsetBack p d
+renamed-back p d = go (eqb d 0) (ltb p d)
+  where
+    go : (a b : Bool) → renamed (cond a nothing (cond b past (at (p - d)))) ≡ cond a 0 (cond b 0 (p - d + 1))
+    go true b = refl
+    go false true = refl
+    go false false = refl
+
+pub old-told : OldTold
+unfolding backsAt values
+old-told p s i bytes far = go (eqb (formatAt s i) 1) refl
+  where
+    back : ℕ → BackPointer
+    back j = backBy p (beAt 2 s (i + 4 + 2 * j))
+
+    same : {d e : ℕ} → d ≡ e → renamed (backBy p d) ≡ offsetBack p e
+    same {d} {e} q = renamed-back p d ∙ ap (offsetBack p) q
+
+    go : (b : Bool) → eqb (formatAt s i) 1 ≡ b
+        → map renamed (cond b (farBacks 4 (beAt 8 s (i + 4))) (values back 0 4)) ≡ cond b (farTold p (beAt 8 s (i + 4))) (nearTold p (beAt 8 s (i + 4)))
+    go true e = rw (lt-ltb (beAt 8 s (i + 4)) p (far (eqb-true (formatAt s i) 1 e)))
+    go false e =
+        let z : ℕ = i + 4 in
+        let d : ℕ = beAt 8 s z in
+        let fits : (j : ℕ) → beAt 2 s (z + j) < 256 ^ 2 = λ j. beAt-lt 2 s (z + j) (λ k l. bytes (z + j + k)) in
+        let w : d ≡ beAt 2 s (z + 0) * 2 ^ 48 + beAt 2 s (z + 2) * 2 ^ 32 + beAt 2 s (z + 4) * 2 ^ 16 + beAt 2 s (z + 6) = rw add-zero (four-of s z) in
+        let a : beAt 2 s (z + 0) ≡ d / 2 ^ 48 = omega (arith, fits 0, fits 2, fits 4, fits 6) in
+        let b : beAt 2 s (z + 2) ≡ d / 2 ^ 32 % 2 ^ 16 = omega (arith, fits 0, fits 2, fits 4, fits 6) in
+        let c : beAt 2 s (z + 4) ≡ d / 2 ^ 16 % 2 ^ 16 = omega (arith, fits 0, fits 2, fits 4, fits 6) in
+        let f : beAt 2 s (z + 6) ≡ d % 2 ^ 16 = omega (arith, fits 0, fits 2, fits 4, fits 6) in
+        λ t. same a t ∷ same b t ∷ same c t ∷ same f t ∷ []
