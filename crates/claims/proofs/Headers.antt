@@ -20,7 +20,7 @@ use Rattle.model.specs.Entries.{Entry, Log, headerObjects, numberOf, earlier}
 use Rattle.model.specs.Slot.{farthest, headerOf, slotOf, slot, markOf, itemCount, okShape}
 use Rattle.model.specs.Rules.{goodAt}
 use Rattle.model.specs.Headers.{BackPointer, nothing, at, past, backBy, formatAt, objectAt, farBacks, backsAt, nearBacks, dueFormat, dueBacks}
-use Rattle.model.specs.HeaderClaims.{headerAt, ReadsAs, HeaderRead, nearest, TellsWhere, PastIsBad}
+use Rattle.model.specs.HeaderClaims.{headerBegins, ReadsAs, HeaderRead, nearest, TellsWhere, PastIsBad}
 use Rattle.laws.specs.OldTold.{offsetBack, farTold, nearTold, renamed, OldTold}
 use Rattle.laws.proofs.Sizes.{layout}
 use Rattle.laws.proofs.Slots.{pastNumbers}
@@ -85,7 +85,7 @@ placed-due k p (r ∷ qs) j q e = go (ltb farthest (p - r)) j e
 pub tells-where : (sh : Shape) → okShape sh ≡ true → TellsWhere sh
 tells-where sh k log p j bound good h =
     let s : List ℕ = slot sh.layout (log .used) p in
-    let i : ℕ = headerAt sh.layout j in
+    let i : ℕ = headerBegins sh.layout j in
     let y : ℕ = getD (headerObjects log p (log .entry p)) j 0 in
     let r : ReadsAs sh.layout p y (earlier log y p) s i = stored-reads sh k log p (record { good = λ o l. good o (omega arith) }) bound j h in
     let d : backsAt (sh .layout .pointers) p s i ≡ dueBacks (sh .layout .pointers) p (earlier log (objectAt s i) p) =
@@ -158,16 +158,16 @@ past-is-bad sh k log p j h m = go (goodAt sh log p) refl
     made : List ℕ
     made = slotOf sh.layout log p (log .entry p)
 
-    small : s ≡ made → (n : ℕ) → n < sh .layout .pointers → beAt 2 s (headerAt sh.layout j + 4 + 2 * n) ≤ p
+    small : s ≡ made → (n : ℕ) → n < sh .layout .pointers → beAt 2 s (headerBegins sh.layout j + 4 + 2 * n) ≤ p
     small e n l =
         let x : ℕ = getD (headerObjects log p (log .entry p)) j 0 in
         let below : j < length (headerObjects log p (log .entry p)) = omega (arith, ap (λ (t : List ℕ). beAt 1 t 2) e, count-le sh log p (log .entry p)) in
-        let there : beAt 2 s (headerAt sh.layout j + 4 + 2 * n) ≡ beAt 2 (headerOf sh.layout log p x) (4 + 2 * n) =
-        ap₂ (beAt 2) e (add-assoc (headerAt sh.layout j) 4 (2 * n)) ∙ slot-header-at sh k log p (log .entry p) j (4 + 2 * n) 2 below (omega arith) in
+        let there : beAt 2 s (headerBegins sh.layout j + 4 + 2 * n) ≡ beAt 2 (headerOf sh.layout log p x) (4 + 2 * n) =
+        ap₂ (beAt 2) e (add-assoc (headerBegins sh.layout j) 4 (2 * n)) ∙ slot-header-at sh k log p (log .entry p) j (4 + 2 * n) 2 below (omega arith) in
         omega (arith, made-small sh k log p x n l)
 
     go : (b : Bool) → goodAt sh log p ≡ b → b ≡ false
-    go true g = clash false (all-in notPast _ (backs-there (sh .layout .pointers) p s (headerAt sh.layout j) (small (good-bytes sh log p g))) past m) refl
+    go true g = clash false (all-in notPast _ (backs-there (sh .layout .pointers) p s (headerBegins sh.layout j) (small (good-bytes sh log p g))) past m) refl
     go false g = refl
 
 -- ---- the reading that went before

@@ -1,9 +1,9 @@
 -- The worked logs marked (P) as one table, and one fact that covers all its rows (specification §16). Beside it the worked
 -- examples of what was asked for later, as another.
-use Prim.Native.Nat.{ℕ, _-_, _*_}
+use Prim.Native.Nat.{ℕ, _+_, _-_, _*_}
 use mathlib.Core.Path.{_≡_, refl}
 use mathlib.Core.Bool.{Bool, true, false, cond, _&&_, Bool·beq}
-use mathlib.Core.List.{List, [], _∷_, _++_}
+use mathlib.Core.List.{List, [], _∷_, _++_, map}
 use mathlib.Core.Option.{Option, none, some}
 use lib.Dec.{eqb}
 use lib.ListN.{length, take, drop, replicate}
@@ -16,10 +16,12 @@ use Rattle.lists.specs.Sets.{all}
 use Rattle.model.specs.Objects.{theLayout, depots, everything, isObject, isCell, isMarked, hosted}
 use Rattle.model.specs.Entries.{checkpoint, Log, writesOf, closed, decided, headerObjects, numberOf, earlier}
 use Rattle.model.specs.Slot.{headersBegin, headerSize, writeBytes, writeAt, readBytes, readAt, savedBytes, savedAt, itemBytes, itemCount, headerOf, slotOf, decode, slot, logIn, objectsIn}
+use Rattle.model.specs.Headers.{BackPointer, nothing, at as entryAt, past, formatAt, backsAt, dueFormat, dueBacks}
 use Rattle.model.specs.Rules.{okEntry, lowest, lowestBad, okWrite, okWrites, okRead, okReads, okSaved, narrow, goodAt, repeats}
 use Rattle.model.specs.Table.{Cell, cellSize, cellAt, cellBytes, cellsOf, tableWith, apply, savedOf, cellOf, lookup, inOrder, store}
 use Rattle.model.specs.Play.{play, commitsOver, step}
 use Rattle.model.specs.Answers.{Answer, done, refused, badFrame}
+use Rattle.model.specs.Reading.{check}
 use Rattle.model.specs.Append.{Replica, Request, update, commits, decides, saves, entryOf, ownTests, append}
 use Rattle.model.specs.Replica.{Left, unopened, openFresh, playCall, readCell, sameContent, audit}
 use Rattle.model.specs.Report.{Outcome, outcomes, report}
@@ -77,6 +79,12 @@ pub data Row : Type 0 where
   goesOn : List Request → Replica → List ℕ → ℕ → Replica → List ℕ → Row
   -- the appends, a record at the tail and its table, a cell: what a play to the tail, reading the cell and a checkpoint of its object are answered
   takes : List Request → Replica → List ℕ → ℕ → ℕ → List ℕ → Row
+  -- an offset, the 12 bytes of a header there, and the format and the back-pointers that are read
+  reads : ℕ → List ℕ → ℕ → List BackPointer → Row
+  -- an offset, an object's earlier offsets, and the format and the back-pointers due
+  due : ℕ → List ℕ → ℕ → List BackPointer → Row
+  -- the appends, bytes put over the log's at a place, and what the check answers and tells
+  spoilt : List Request → ℕ → List ℕ → ℕ → Option ℕ → Row
 
 -- 0 for done, else the number of a refusal
 abbrev pub code : {A : Type 0} → Answer A → ℕ
@@ -121,6 +129,19 @@ leftIs set n x e = eqb (code (x .answer)) (e .answers) && sameOffset (tells (x .
 abbrev pub sameReplica : Replica → Replica → Bool
 sameReplica r s = eqb r.hosting s.hosting && eqb r.position s.position && eqb r.count s.count
 
+-- a back-pointer as a number of its own
+abbrev pub backNumber : BackPointer → ℕ
+backNumber nothing = 0
+backNumber past = 1
+backNumber (entryAt q) = q + 2
+
+abbrev pub sameBacks : List BackPointer → List BackPointer → Bool
+sameBacks bs cs = eqList (map backNumber bs) (map backNumber cs)
+
+-- a log with these bytes put over its own
+abbrev pub over : Lent → ℕ → List ℕ → Lent
+over l i bs = record { bytes = splice (l .bytes) i bs; tail = l .tail }
+
 unfoldable pub rowHolds : Row → Bool
 rowHolds (header qs o h) = let l = logBy 6 qs in eqList (take (headerSize theLayout) (drop headersBegin (slot theLayout (l .bytes) o))) h
 rowHolds (far p h) = eqList (headerOf theLayout sparse p 2) h
@@ -138,6 +159,12 @@ rowHolds (takes qs r table o k codes) =
     let l = logBy 6 qs in
     eqList (code (playCall depots (inLog depots l) r table (l .tail) .answer) ∷ code (readCell depots r table o k)
     ∷ code (append depots (l .bytes) (l .tail) (saves r table o) .newTail) ∷ []) codes
+rowHolds (reads p h f bs) = eqb (formatAt h 0) f && sameBacks (backsAt (theLayout .pointers) p h 0) bs
+rowHolds (due p qs f bs) = eqb (dueFormat p qs) f && sameBacks (dueBacks (theLayout .pointers) p qs) bs
+rowHolds (spoilt qs i bs a o) =
+    let l = over (logBy 6 qs) i bs in
+    let x = check depots (inLog depots l) in
+    eqb (code x) a && sameOffset (tells x) o
 
 abbrev pub line : ℕ → ℕ → Bool → Outcome
 line o n b = record { offset = o; number = n; commits = b }
@@ -203,6 +230,18 @@ plainCell o k = cell o k (some 4) 1
 abbrev odd : ℕ → ℕ → Cell
 odd o k = record { object = o; key = k; value = 77; present = 9; version = 9223372036854775808 }
 
+-- ---- headers as they are read
+
+abbrev none4 : List BackPointer
+none4 = nothing ∷ nothing ∷ nothing ∷ nothing ∷ []
+
+abbrev only : ℕ → List BackPointer
+only q = entryAt q ∷ nothing ∷ nothing ∷ nothing ∷ []
+
+-- where the first header of the entry at p begins
+abbrev headerIn : ℕ → ℕ
+headerIn p = theLayout .slotSize * p + headersBegin
+
 abbrev pub later : List Row
 later =
     -- a table of 96 bytes, played to 3, byte for byte
@@ -236,8 +275,33 @@ later =
     ∷ goesOn only7 (at 2 0 2) (tableOf (odd 2 6 ∷ odd 2 8 ∷ [])) 13 (at 2 0 2) (tableOf (odd 2 6 ∷ odd 2 8 ∷ []))
     -- a play refused with 10 leaves all as it was
     ∷ goesOn only7 (at 2 0 2) (tableOf (odd 2 8 ∷ odd 2 6 ∷ [])) 10 (at 2 0 2) (tableOf (odd 2 8 ∷ odd 2 6 ∷ []))
+    -- a header as it is read and as it is due: four distances, the last to offset 0; none; the farthest distance, and one more
+    ∷ reads 4 (0 ∷ 0 ∷ 0 ∷ 2 ∷ 0 ∷ 1 ∷ 0 ∷ 2 ∷ 0 ∷ 3 ∷ 0 ∷ 4 ∷ []) 0 (entryAt 3 ∷ entryAt 2 ∷ entryAt 1 ∷ entryAt 0 ∷ [])
+    ∷ due 4 (3 ∷ 2 ∷ 1 ∷ 0 ∷ []) 0 (entryAt 3 ∷ entryAt 2 ∷ entryAt 1 ∷ entryAt 0 ∷ [])
+    ∷ reads 0 (0 ∷ 0 ∷ 0 ∷ 2 ∷ 0 ∷ 0 ∷ 0 ∷ 0 ∷ 0 ∷ 0 ∷ 0 ∷ 0 ∷ []) 0 none4
+    ∷ due 0 [] 0 none4
+    ∷ reads 65535 (0 ∷ 0 ∷ 0 ∷ 2 ∷ 0xFF ∷ 0xFF ∷ 0 ∷ 0 ∷ 0 ∷ 0 ∷ 0 ∷ 0 ∷ []) 0 (only 0)
+    ∷ due 65535 (0 ∷ []) 0 (only 0)
+    ∷ reads 65536 (0x80 ∷ 0 ∷ 0 ∷ 2 ∷ 0 ∷ 0 ∷ 0 ∷ 0 ∷ 0 ∷ 0 ∷ 0 ∷ 0 ∷ []) 1 (only 0)
+    ∷ due 65536 (0 ∷ []) 1 (only 0)
+    -- of five earlier entries four are due; one too far is none; behind a nearest that is too far nothing is told
+    ∷ due 5 (4 ∷ 3 ∷ 2 ∷ 1 ∷ 0 ∷ []) 0 (entryAt 4 ∷ entryAt 3 ∷ entryAt 2 ∷ entryAt 1 ∷ [])
+    ∷ due 65537 (65536 ∷ 2 ∷ 1 ∷ 0 ∷ []) 0 (entryAt 65536 ∷ entryAt 2 ∷ nothing ∷ nothing ∷ [])
+    ∷ due 65538 (1 ∷ 0 ∷ []) 1 (only 1)
+    -- past offset 0, alone and behind a right one
+    ∷ reads 1 (0 ∷ 0 ∷ 0 ∷ 2 ∷ 0 ∷ 2 ∷ 0 ∷ 0 ∷ 0 ∷ 0 ∷ 0 ∷ 0 ∷ []) 0 (past ∷ nothing ∷ nothing ∷ nothing ∷ [])
+    ∷ reads 3 (0 ∷ 0 ∷ 0 ∷ 2 ∷ 0 ∷ 1 ∷ 0 ∷ 4 ∷ 0 ∷ 0 ∷ 0 ∷ 0 ∷ []) 0 (entryAt 2 ∷ past ∷ nothing ∷ nothing ∷ [])
+    -- format 1 where a distance would do, and with an offset that is not below the entry's
+    ∷ reads 1 (0x80 ∷ 0 ∷ 0 ∷ 2 ∷ 0 ∷ 0 ∷ 0 ∷ 0 ∷ 0 ∷ 0 ∷ 0 ∷ 0 ∷ []) 1 (only 0)
+    ∷ reads 1 (0x80 ∷ 0 ∷ 0 ∷ 2 ∷ 0xFF ∷ 0xFF ∷ 0xFF ∷ 0xFF ∷ 0xFF ∷ 0xFF ∷ 0xFF ∷ 0xFF ∷ []) 1 (only 18446744073709551615)
+    -- in a log each of these is a bad entry
+    ∷ spoilt (bench 1) (headerIn 1 + 4) (0 ∷ 1 ∷ []) 0 none
+    ∷ spoilt (bench 1) (headerIn 1 + 4) (0 ∷ 2 ∷ []) 2 (some 1)
+    ∷ spoilt (bench 1) (headerIn 3 + 6) (0 ∷ 4 ∷ []) 2 (some 3)
+    ∷ spoilt (bench 1) (headerIn 1) (0x80 ∷ 0 ∷ 0 ∷ 2 ∷ 0 ∷ 0 ∷ 0 ∷ 0 ∷ 0 ∷ 0 ∷ 0 ∷ 0 ∷ []) 2 (some 1)
+    ∷ spoilt (bench 1) (headerIn 1) (0x80 ∷ 0 ∷ 0 ∷ 2 ∷ 0xFF ∷ 0xFF ∷ 0xFF ∷ 0xFF ∷ 0xFF ∷ 0xFF ∷ 0xFF ∷ 0xFF ∷ []) 2 (some 1)
     ∷ []
 
 pub later-worked : all rowHolds later ≡ true
-unfolding rowHolds beAt bytesOf splice values joined first firstFrom eqList writesOf closed decided headerObjects earlier writeBytes writeAt readBytes readAt savedBytes savedAt itemBytes itemCount headerOf slotOf decode slot logIn okEntry lowest lowestBad cellAt cellBytes cellsOf tableWith apply savedOf play commitsOver entryOf ownTests append openFresh playCall readCell audit outcomes report grown isObject isCell isMarked hosted okWrite okWrites okRead okReads okSaved narrow goodAt lookup inOrder store step badFrame objectsIn repeats
+unfolding rowHolds beAt bytesOf splice values joined first firstFrom eqList writesOf closed decided headerObjects earlier writeBytes writeAt readBytes readAt savedBytes savedAt itemBytes itemCount headerOf slotOf decode slot logIn okEntry lowest lowestBad cellAt cellBytes cellsOf tableWith apply savedOf play commitsOver entryOf ownTests append openFresh playCall readCell audit outcomes report grown isObject isCell isMarked hosted okWrite okWrites okRead okReads okSaved narrow goodAt lookup inOrder store step badFrame objectsIn repeats backsAt check
 later-worked = refl
