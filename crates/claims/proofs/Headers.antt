@@ -2,83 +2,39 @@
 -- the one due, and the reading that went before is this one renamed. The bytes of a good slot are those that append writes; in them no number of
 -- 2 bytes is above the entry's offset.
 use mathlib.Core.Path.{_≡_, refl, ap, ap₂, sym, _∙_}
-use mathlib.Core.Bool.{Bool, true, false, cond}
+use mathlib.Core.Bool.{Bool, true, false, cond, not}
 use mathlib.Core.List.{List, [], _∷_, _++_, map, append-assoc}
 use Prim.Native.Nat.{ℕ, zero, suc, _+_, _-_, _*_, _/_, _%_, _^_, _≤_, _<_}
-use native.Mathlib.Nat.{add-zero, add-assoc}
+use native.Mathlib.Nat.{add-zero, add-assoc, le-refl}
 use native.Mathlib.Omega.{arith}
-use lib.Dec.{eqb, leb, ltb}
+use lib.Dec.{eqb, ltb}
 use lib.ListN.{length, getD, replicate}
-use borrow.Author.Tests.{eqb-true, ltb-false, le-ltb, lt-ltb, le-leb}
-use Rattle.lists.specs.Tests.{both, clash}
+use borrow.Author.Tests.{eqb-true, le-ltb, lt-ltb}
+use Rattle.lists.specs.Tests.{clash}
 use Rattle.lists.specs.Sets.{all}
+use Rattle.lists.specs.First.{seeking-from}
+use Rattle.lists.specs.Every.{failing, every-all}
 use Rattle.lists.specs.Members.{all-in}
 use Rattle.lists.specs.Bytes.{beAt, bytesOf, length-bytesOf, beAt-add, beAt-lt}
 use Rattle.lists.specs.Rows.{values}
 use Rattle.model.specs.Objects.{Shape}
 use Rattle.model.specs.Entries.{Entry, Log, headerObjects, numberOf, earlier}
-use Rattle.model.specs.Slot.{farthest, headerOf, slotOf, slot, markOf, itemCount, okShape}
+use Rattle.model.specs.Slot.{headerOf, slotOf, slot, markOf, itemCount, okShape}
 use Rattle.model.specs.Rules.{goodAt}
-use Rattle.model.specs.Headers.{BackPointer, nothing, at, past, backBy, formatAt, objectAt, farBacks, backsAt, nearBacks, dueFormat, dueBacks}
-use Rattle.model.specs.HeaderClaims.{headerBegins, ReadsAs, HeaderRead, nearest, TellsWhere, PastIsBad}
+use Rattle.model.specs.Headers.{BackPointer, nothing, at, past, backBy, formatAt, objectAt, farBacks, backsAt, dueFormat, dueBacks}
+use Rattle.model.specs.HeaderClaims.{headerBegins, ReadsAs, HeaderRead, TellsWhere, PastIsBad}
 use Rattle.laws.specs.OldTold.{offsetBack, farTold, nearTold, renamed, OldTold}
 use Rattle.laws.proofs.Sizes.{layout}
 use Rattle.laws.proofs.Slots.{pastNumbers}
 use Rattle.laws.proofs.Headers.{slot-header-at}
 use Rattle.laws.proofs.Appends.{good-bytes}
 use Rattle.laws.proofs.Good.{stored-reads}
-use Rattle.laws.proofs.Backs.{offsetIn, header-small, header-read, load-le}
+use Rattle.laws.proofs.Backs.{header-small, header-read, load-le, first-due, placed-due}
 
 -- ---- a header as it is read
 
 pub header-reads : (sh : Shape) → okShape sh ≡ true → HeaderRead sh
 header-reads sh k p x qs s i bound small below bytes room = header-read sh.layout (layout sh k .pointers-are) p x bound small qs below s i bytes room
-
--- ---- what the back-pointers due are
-
-abbrev told : BackPointer → Bool
-told nothing = false
-told (at q) = true
-told past = false
-
--- the first is the nearest
-first-due : (k : ℕ) → 1 ≤ k → (p : ℕ) (qs : List ℕ) → getD (dueBacks k p qs) 0 nothing ≡ nearest qs
-first-due zero h p qs = absurd (omega arith)
-first-due (suc k) h p [] = refl
-first-due (suc k) h p (q ∷ qs) = go (ltb farthest (p - q)) refl
-  where
-    go : (b : Bool) → ltb farthest (p - q) ≡ b → getD (cond b (farBacks (suc k) q) (nearBacks p (suc k) (q ∷ qs))) 0 nothing ≡ at q
-    go true e = refl
-    go false e = rw (le-leb (p - q) farthest (ltb-false farthest (p - q) e))
-
-none-told : {P : Type 0} (q : ℕ) → nothing ≡ at q → P
-none-told q e = clash false (ap told e) refl
-
--- one that is an offset is the one at its place
-near-due : (p k : ℕ) (qs : List ℕ) (j q : ℕ) → getD (nearBacks p k qs) j nothing ≡ at q → (j < length qs) × (getD qs j 0 ≡ q)
-near-due p zero qs j q e = none-told q e
-near-due p (suc k) [] zero q e = none-told q e
-near-due p (suc k) [] (suc j) q e = absurd (omega (arith, near-due p k [] j q e .0))
-near-due p (suc k) (r ∷ qs) zero q e = (omega arith, go (leb (p - r) farthest) e)
-  where
-    go : (b : Bool) → cond b (at r) nothing ≡ at q → r ≡ q
-    go true i = ap offsetIn i
-    go false i = none-told q i
-near-due p (suc k) (r ∷ qs) (suc j) q e = let (l, i) = near-due p k qs j q e in (omega arith, i)
-
-nothing-else : (n j : ℕ) → getD (replicate n nothing) j nothing ≡ nothing
-nothing-else zero j = refl
-nothing-else (suc n) zero = refl
-nothing-else (suc n) (suc j) = nothing-else n j
-
-placed-due : (k p : ℕ) (qs : List ℕ) (j q : ℕ) → getD (dueBacks k p qs) j nothing ≡ at q → (j < length qs) × (getD qs j 0 ≡ q)
-placed-due k p [] j q e = near-due p k [] j q e
-placed-due k p (r ∷ qs) j q e = go (ltb farthest (p - r)) j e
-  where
-    go : (b : Bool) (j : ℕ) → getD (cond b (farBacks k r) (nearBacks p k (r ∷ qs))) j nothing ≡ at q → (j < length (r ∷ qs)) × (getD (r ∷ qs) j 0 ≡ q)
-    go true zero i = (omega arith, ap offsetIn i)
-    go true (suc j) i = none-told q (sym (nothing-else (k - 1) j) ∙ i)
-    go false j i = near-due p k (r ∷ qs) j q i
 
 -- ---- in a good entry
 
@@ -119,11 +75,6 @@ unfolding notPast
 none-past zero = refl
 none-past (suc n) = none-past n
 
-values-there : (g : ℕ → BackPointer) (i n : ℕ) → ((j : ℕ) → i ≤ j → j < i + n → notPast (g j) ≡ true) → all notPast (values g i n) ≡ true
-unfolding values
-values-there g i zero h = refl
-values-there g i (suc n) h = both (h i (omega arith) (omega arith)) (values-there g (suc i) n (λ j l u. h j (omega arith) (omega arith)))
-
 -- distances that are not above p are not past offset 0
 backs-there : (k p : ℕ) (s : List ℕ) (i : ℕ) → ((j : ℕ) → j < k → beAt 2 s (i + 4 + 2 * j) ≤ p) → all notPast (backsAt k p s i) ≡ true
 unfolding backsAt notPast
@@ -134,7 +85,7 @@ backs-there k p s i h = go (eqb (formatAt s i) 1)
 
     go : (b : Bool) → all notPast (cond b (farBacks k (beAt 8 s (i + 4))) (values g 0 k)) ≡ true
     go true = none-past (k - 1)
-    go false = values-there g 0 k (λ j l u. back-there p (beAt 2 s (i + 4 + 2 * j)) (h j (omega arith)))
+    go false = every-all notPast g (seeking-from (failing notPast g) k k (le-refl k) (λ j l. ap not (back-there p (beAt 2 s (i + 4 + 2 * j)) (h j l)))) (le-refl k)
 
 -- the header count of a slot is not above the number of its header objects
 count-le : (sh : Shape) (log : Log) (p : ℕ) (e : Entry) → beAt 1 (slotOf sh.layout log p e) 2 ≤ length (headerObjects log p e)
