@@ -29,7 +29,8 @@ use Rattle.laws.proofs.Slots.{pastNumbers}
 use Rattle.laws.proofs.Headers.{slot-header-at}
 use Rattle.laws.proofs.Appends.{good-bytes}
 use Rattle.laws.proofs.Good.{stored-reads}
-use Rattle.laws.proofs.Backs.{header-small, header-read, load-le, first-due, placed-due}
+use Rattle.laws.proofs.Backs.{header-small, load-le, first-due, placed-due}
+use Rattle.laws.proofs.DueBytes.{header-read}
 
 -- ---- a header as it is read
 
