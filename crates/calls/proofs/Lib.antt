@@ -8,3 +8,4 @@ pub mod Openings
 pub mod Behave
 pub mod Instalments
 pub mod Order
+pub mod Headers

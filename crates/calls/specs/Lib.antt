@@ -1,3 +1,4 @@
 pub mod Values
 pub mod Claims
 pub mod Order
+pub mod Headers
