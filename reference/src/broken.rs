@@ -3,10 +3,11 @@
 use crate::append::Request;
 use crate::bytes::{put16, put32, put64};
 use crate::cases::{case, transactions, Case, Expected};
+use crate::header::Header;
 use crate::log::pass;
 use crate::objects::ids;
 use crate::sample::*;
-use crate::slot::{write_slot, Header, Kind, Saved, Verdict, ABORT, COMMIT, SLOT};
+use crate::slot::{write_slot, Kind, Saved, Verdict, ABORT, COMMIT, SLOT};
 use crate::table::Row;
 
 /// Adds a slot with the right pointers, whatever the other rules say of it.

@@ -16,6 +16,7 @@ pub mod earlier;
 pub mod examples;
 pub mod forms;
 pub mod hash;
+pub mod header;
 pub mod log;
 pub mod objects;
 pub mod playing;

@@ -4,15 +4,16 @@ use std::collections::BTreeMap;
 
 use reference::append::Request;
 use reference::boundary::Said;
+use reference::header::{BackPointer, Header, FARTHEST};
 use reference::replica::Record;
 use reference::rules::objects_written;
-use reference::slot::{slot_at, writes_in, Kind};
+use reference::slot::{slot_at, writes_in, Kind, MOST_HEADERS};
 use reference::table::{capacity, in_order};
 
 use crate::calls::{Call, NAMES};
 
 /// Cases that must be met beside the numbers.
-pub const CASES: [&str; 23] = [
+pub const CASES: [&str; 25] = [
     "owed: an offset",
     "owed: none",
     "entry: update",
@@ -36,6 +37,8 @@ pub const CASES: [&str; 23] = [
     "append_checkpoint: 10 for the order of the rows",
     "play: 10 for the order of the rows",
     "read_cell: 10 for the order of the rows",
+    "check: 2 at a back-pointer past offset 0",
+    "check: 2 at format 1 where no entry is far",
 ];
 
 /// Met on far logs alone.
@@ -102,9 +105,25 @@ fn disorder_alone(record: &Record, table: &[u8]) -> bool {
         && !in_order(table, record.count as usize)
 }
 
+/// A bad entry with a header that reads as no good one can there.
+fn bad_header(log: &[u8], at: usize) -> Option<&'static str> {
+    let slot = slot_at(log, at);
+    let count = slot.header_count().min(MOST_HEADERS);
+    let mut headers = (0..count).map(|place| slot.header(place));
+    let past = |header: Header| header.back_pointers(at).contains(&BackPointer::Past);
+    if headers.clone().any(past) {
+        Some(CASES[23])
+    } else if at <= FARTHEST && headers.any(|header| header.format == 1) {
+        Some(CASES[24])
+    } else {
+        None
+    }
+}
+
 fn case_of(log: &[u8], call: &Call, said: &Said) -> Option<&'static str> {
     let (number, out) = (said.number, &said.out);
     match (call, number) {
+        (Call::Check, 2) => bad_header(log, out[3] as usize),
         (Call::Owed, 0) => Some(["owed: none", "owed: an offset"][out[0] as usize]),
         (Call::Entry { .. }, 0) => Some(CASES[1 + out[0] as usize]),
         (Call::Header { .. }, 0) => Some(["header: format 0", FAR_CASE][out[1] as usize]),

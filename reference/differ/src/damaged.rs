@@ -1,16 +1,18 @@
 //! Damaged logs and junk: a grown log is changed, and every call is made on it with arguments of any kind.
 
 use reference::bytes::{get32, put16, put32, put64};
+use reference::header::Header;
 use reference::log::pass;
 use reference::objects::ids;
 use reference::random::{damage, edge, junk, History, Random};
 use reference::sample::{put, read, remove};
 use reference::slot::{
-    slot_at, write_slot, Header, Kind, Saved, Verdict, HEADER, HEADERS_AT, ITEM, ITEMS_AT, SLOT,
+    slot_at, write_slot, Kind, Saved, Verdict, HEADER, HEADERS_AT, ITEM, ITEMS_AT, SLOT,
 };
 
 use crate::arguments::{self, Seen};
 use crate::calls::NAMES;
+use crate::headers::wrong_header;
 use crate::histories::mix;
 use crate::pair::{Difference, Pair};
 
@@ -62,15 +64,16 @@ fn grown(random: &mut Random, seed: u64) -> (Vec<u8>, Seen) {
 /// One change of the log, or none, where the arguments alone are junk.
 fn change(random: &mut Random, log: &mut Vec<u8>, seen: &mut Seen) {
     let tail = seen.tail as usize;
-    match random.below(19) {
+    match random.below(22) {
         0..=4 if tail > 0 => damage(random, log, tail),
         5 if tail > 1 => swap(random, log, tail),
         6 if tail > 1 => copy(random, log, tail),
         7..=9 if tail > 0 => wrong_pointer(random, log, tail),
         10..=11 if tail > 0 => wrong_field(random, log, tail),
         12..=15 => forge(random, log, seen),
-        16 => log.truncate(random.below(log.len() as u64 + 1) as usize),
-        17 => *log = junk(random, 1100),
+        16..=18 => wrong_header(random, log, tail),
+        19 => log.truncate(random.below(log.len() as u64 + 1) as usize),
+        20 => *log = junk(random, 1100),
         _ => {}
     }
     seen.slots = (log.len() / SLOT) as u64;

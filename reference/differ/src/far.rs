@@ -2,7 +2,7 @@
 //! the whole log.
 
 use reference::append::Request;
-use reference::bytes::{put16, put64};
+use reference::log::scan;
 use reference::objects::set_of;
 use reference::random::{put_in_order, History, Mix, Random};
 use reference::replica::Record;
@@ -12,6 +12,7 @@ use reference::table::{put_row, row, Row, CELL};
 
 use crate::arguments::{self, Seen};
 use crate::calls::Call;
+use crate::headers::{is_bad, lists, Spot, Wrong};
 use crate::pair::{Difference, Pair};
 
 const FILLER: u32 = 8;
@@ -29,11 +30,12 @@ pub fn far(pair: &mut Pair, seed: u64) -> Result<(), Difference> {
     let far = far_headers(&log, tail);
     worked(pair, &mut log, seen, &far)?;
     on_both_sides(pair, &mut random, &mut log, seen)?;
-    damaged(pair, &mut random, &log, seen, &far)
+    damaged(pair, &mut random, &mut log, seen, &far)
 }
 
 /// Early entries of objects 1 to 7, a long stretch of object 8, then random appends: their nearest entries are far.
-/// Offset 0 is the one early entry of its object, whose next is at 65,535 or 65,536.
+/// Offset 0 is the one early entry of its object, whose next is at 65,535 or 65,536. Offset 1 is the one of another, whose next
+/// two have a header of each format.
 fn grown(random: &mut Random, seed: u64) -> (Vec<u8>, u64) {
     let mix = Mix {
         broken: 0,
@@ -42,11 +44,13 @@ fn grown(random: &mut Random, seed: u64) -> (Vec<u8>, u64) {
     let slots = 65_560 + random.below(40) as usize;
     let mut history = History::new(seed, slots, mix);
     let lowest = 1 + seed % 7;
+    let second = 1 + lowest % 7;
+    let others = |random: &mut Random| 1 + (second + random.below(5)) % 7;
     let early = 7 + random.below(20);
     for at in 0..early {
         let object = match at {
             0..=6 => 1 + (at + seed) % 7,
-            _ => 1 + (lowest + random.below(6)) % 7,
+            _ => others(random),
         };
         history.append(update(0, &[put(object as u32, 0, at as u32)]));
     }
@@ -55,7 +59,8 @@ fn grown(random: &mut Random, seed: u64) -> (Vec<u8>, u64) {
         let at = history.writer.tail;
         let object = match at {
             _ if at == next => lowest,
-            65_533.. => 1 + (lowest + random.below(6)) % 7,
+            65_543.. => second,
+            65_533.. => others(random),
             _ => FILLER.into(),
         };
         history.append(update(0, &[put(object as u32, 0, at as u32)]));
@@ -67,12 +72,12 @@ fn grown(random: &mut Random, seed: u64) -> (Vec<u8>, u64) {
 }
 
 /// The offset and place of each header of format 1.
-fn far_headers(log: &[u8], tail: u64) -> Vec<(u64, u32)> {
+fn far_headers(log: &[u8], tail: u64) -> Vec<Spot> {
     let mut far = Vec::new();
-    for at in 65_536..tail {
-        for (place, header) in slot_at(log, at as usize).headers().enumerate() {
+    for at in 65_536..tail as usize {
+        for (place, header) in slot_at(log, at).headers().enumerate() {
             if header.format == 1 {
-                far.push((at, place as u32));
+                far.push(Spot { at, place });
             }
         }
     }
@@ -80,27 +85,17 @@ fn far_headers(log: &[u8], tail: u64) -> Vec<(u64, u32)> {
 }
 
 /// Headers, streams and appends at and past the distance.
-fn worked(
-    pair: &mut Pair,
-    log: &mut [u8],
-    seen: Seen,
-    far: &[(u64, u32)],
-) -> Result<(), Difference> {
+fn worked(pair: &mut Pair, log: &mut [u8], seen: Seen, far: &[Spot]) -> Result<(), Difference> {
     let tail = seen.tail;
-    for &(offset, place) in far.iter().take(4) {
+    for spot in far.iter().take(4) {
+        let (offset, place) = (spot.at as u64, spot.place as u32);
         pair.call(log, tail, &mut Call::Header { offset, place })?;
     }
-    for object in 1..=7 {
-        let list = vec![7; 200];
-        pair.call(log, tail, &mut Call::StreamList { object, list })?;
-    }
+    listed(pair, log, tail)?;
     for object in [1, 4] {
         let from = 30;
         pair.call(log, tail, &mut Call::StreamNext { object, from })?;
     }
-    let list = vec![7; tail as usize];
-    let object = FILLER;
-    pair.call(log, tail, &mut Call::StreamList { object, list })?;
     for at in [65_534, 65_535, 65_536, 65_537] {
         let objects = [1, 2, 3, 4].map(|object| put(object, 1, 5));
         let mut copy = log.to_vec();
@@ -149,37 +144,78 @@ fn on_both_sides(
     Ok(())
 }
 
-/// A far header's pointer, format bit or rest changed.
+/// Headers of both formats changed, so that their entries are bad.
 fn damaged(
     pair: &mut Pair,
     random: &mut Random,
-    log: &[u8],
+    log: &mut [u8],
     seen: Seen,
-    far: &[(u64, u32)],
+    far: &[Spot],
 ) -> Result<(), Difference> {
-    for way in 0..4 {
-        let Some((at, place)) = random.pick(far) else {
+    for way in 0..7 {
+        let Some(spot) = random.pick(far) else {
             return Ok(());
         };
-        let mut copy = log.to_vec();
-        let slot = &mut copy[at as usize * SLOT..at as usize * SLOT + SLOT];
-        let word = 8 + 12 * place as usize;
-        let pointer = slot_at(log, at as usize).header(place as usize).pointer;
-        match way {
-            0 => put64(slot, word + 4, pointer + 1),
-            1 => put64(slot, word + 4, pointer | 1 << 63),
-            2 => {
-                slot[word] ^= 0x80;
-                put64(slot, word + 4, 0);
-            }
-            _ => {
-                slot[word] ^= 0x80;
-                put16(slot, word + 4, 0xFFFF);
-            }
-        }
-        pair.call(&mut copy, seen.tail, &mut Call::Check)?;
+        let wrong = wrong_far(log, seen.tail, spot, way);
+        is_bad(pair, log, seen.tail, (spot, &wrong), Call::Check)?;
+    }
+    for (spot, wrong) in wrong_near(log, seen.tail) {
+        is_bad(pair, log, seen.tail, (spot, &[wrong]), Call::Check)?;
     }
     Ok(())
+}
+
+/// Format 1 with another offset, and format 0 where 1 is due.
+fn wrong_far(log: &[u8], tail: u64, spot: Spot, way: u32) -> Vec<Wrong> {
+    let stored = slot_at(log, spot.at).header(spot.place).pointer;
+    match way {
+        0 => vec![Wrong::Offset(stored + 1)],
+        1 => vec![Wrong::Offset(stored | 1 << 63)],
+        2 => vec![Wrong::Offset(spot.at as u64)],
+        3 => vec![Wrong::Offset(tail)],
+        4 => vec![Wrong::Offset(u64::MAX)],
+        5 => vec![Wrong::Offset(0), Wrong::Format],
+        _ => vec![Wrong::Format, Wrong::Distance(0, 0xFFFF)],
+    }
+}
+
+/// A fourth distance of 65,535 where it is past offset 0 and where it is offset 0, which is no fourth entry; and format 1 with
+/// the right offset where that is near.
+fn wrong_near(log: &[u8], tail: u64) -> Vec<(Spot, Wrong)> {
+    let place = 0;
+    let fourth = [65_534, 65_535].map(|at| (Spot { at, place }, Wrong::Distance(3, 0xFFFF)));
+    let near = (65_536..tail as usize).find_map(|at| {
+        let header = slot_at(log, at).header(place);
+        let offset = header.back_pointers(at)[0].offset()?;
+        let wrong = Wrong::Offset(offset as u64);
+        (header.format == 0).then_some((Spot { at, place }, wrong))
+    });
+    fourth.into_iter().chain(near).collect()
+}
+
+/// The list of every object is what a scan finds, and one of them at least is told by headers of both formats.
+fn listed(pair: &mut Pair, log: &mut [u8], tail: u64) -> Result<(), Difference> {
+    let mut both = 0;
+    for object in 1..=8 {
+        let offsets = scan(log, tail as usize, object);
+        lists(pair, log, tail, object, &offsets)?;
+        both += u32::from(has_both_formats(log, object, &offsets));
+    }
+    match both {
+        0 => Err(Difference("no object has both formats".to_string())),
+        _ => Ok(()),
+    }
+}
+
+fn has_both_formats(log: &[u8], object: u32, offsets: &[usize]) -> bool {
+    let mut tells = [false; 2];
+    for &at in offsets {
+        let mut headers = slot_at(log, at).headers();
+        if let Some(header) = headers.find(|header| header.object == object) {
+            tells[header.format as usize] |= header.back_pointers(at)[0].offset().is_some();
+        }
+    }
+    tells == [true; 2]
 }
 
 /// A table of 70,000 rows that ascend, more than there are cells, and room for one more.

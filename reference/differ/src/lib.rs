@@ -7,6 +7,7 @@ pub mod cover;
 pub mod damaged;
 pub mod far;
 pub mod guarded;
+pub mod headers;
 pub mod histories;
 pub mod library;
 pub mod measure;

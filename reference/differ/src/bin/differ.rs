@@ -13,6 +13,7 @@ use std::time::Instant;
 
 use differ::damaged::damaged;
 use differ::far::{far, large_tables, most_slots};
+use differ::headers::worked;
 use differ::histories::{history, long_history};
 use differ::pair::{Difference, Pair};
 
@@ -89,6 +90,8 @@ fn part(
 fn all(pair: &mut Pair, options: &Options) -> Result<(), Difference> {
     part(pair, "histories", options.seed, options.histories, history)?;
     part(pair, "damaged logs", options.seed, options.damaged, damaged)?;
+    let once = u64::from(options.damaged > 0);
+    part(pair, "set of damaged headers", options.seed, once, worked)?;
     part(
         pair,
         "long histories",
