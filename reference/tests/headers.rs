@@ -1,7 +1,7 @@
 //! How a header is read (4.5), and that reading it tells good from bad as the header rule does (4.1 to 4.3, 4.6).
 
 use reference::header::BackPointer::{self, At, Nothing, Past};
-use reference::header::{reads_as_due, EarlierOffset, Header, Nearest, FARTHEST};
+use reference::header::{distance, reads_as_due, EarlierOffset, Header, Nearest, FARTHEST};
 use reference::log::{check, list};
 use reference::random::{History, Mix, Random};
 use reference::rules::pointers_good;
@@ -58,6 +58,52 @@ const NONE: [BackPointer; 4] = [Nothing; 4];
 
 fn only(first: BackPointer) -> [BackPointer; 4] {
     [first, Nothing, Nothing, Nothing]
+}
+
+/// A distance as it is stored (4.3): none, the nearest, the farthest, one too far, and to offset 0.
+#[test]
+fn distances() {
+    let none = EarlierOffset::NONE;
+    let to = EarlierOffset::at;
+    let stored = [
+        (70_000, none, 0),
+        (70_000, to(69_999), 1),
+        (70_000, to(4_465), 65_535),
+        (70_000, to(4_464), 0),
+        (65_535, to(0), 65_535),
+        (65_536, to(0), 0),
+        (131_071, none, 0),
+        (131_071, to(65_536), 65_535),
+        (131_071, to(65_535), 0),
+    ];
+    for (at, earlier, due) in stored {
+        assert_eq!(distance(at, earlier), due, "at {at}");
+    }
+    // behind a nearest that is near, each of the others just in range and just out of it
+    for place in 1..4 {
+        let mut offsets = [69_999, 69_998, 69_997, 69_996];
+        let mut distances = [1, 2, 3, 4];
+        offsets[place] = 4_465;
+        distances[place] = 65_535;
+        for later in place + 1..4 {
+            offsets[later] = 4_464 - later;
+            distances[later] = 0;
+        }
+        let made = Header::made(2, 70_000, &earlier(&offsets));
+        assert_eq!(
+            [0, 1, 2, 3].map(|k| made.distance(k)),
+            distances,
+            "place {place}"
+        );
+        offsets[place] = 4_464;
+        distances[place] = 0;
+        let made = Header::made(2, 70_000, &earlier(&offsets));
+        assert_eq!(
+            [0, 1, 2, 3].map(|k| made.distance(k)),
+            distances,
+            "place {place}"
+        );
+    }
 }
 
 #[test]

@@ -15,7 +15,7 @@ use Rattle.lists.specs.Equal.{eqList}
 use Rattle.lists.specs.Sets.{all}
 use Rattle.model.specs.Objects.{theLayout, depots, everything, isObject, isCell, isMarked, hosted}
 use Rattle.model.specs.Entries.{checkpoint, Log, writesOf, closed, decided, headerObjects, numberOf, earlier}
-use Rattle.model.specs.Slot.{headersBegin, headerSize, writeBytes, writeAt, readBytes, readAt, savedBytes, savedAt, itemBytes, itemCount, headerOf, slotOf, decode, slot, logIn, objectsIn}
+use Rattle.model.specs.Slot.{headersBegin, headerSize, distanceTo, writeBytes, writeAt, readBytes, readAt, savedBytes, savedAt, itemBytes, itemCount, headerOf, slotOf, decode, slot, logIn, objectsIn}
 use Rattle.model.specs.Headers.{BackPointer, nothing, at as entryAt, past, formatAt, backsAt, dueFormat, dueBacks}
 use Rattle.model.specs.Rules.{okEntry, lowest, lowestBad, okWrite, okWrites, okRead, okReads, okSaved, narrow, goodAt, repeats}
 use Rattle.model.specs.Table.{Cell, cellSize, cellAt, cellBytes, cellsOf, tableWith, apply, savedOf, cellOf, lookup, inOrder, store}
@@ -85,6 +85,8 @@ pub data Row : Type 0 where
   due : ℕ → List ℕ → ℕ → List BackPointer → Row
   -- the appends, bytes put over the log's at a place, and what the check answers and tells
   spoilt : List Request → ℕ → List ℕ → ℕ → Option ℕ → Row
+  -- an offset, an earlier offset or none, and the distance between them as it is stored
+  apart : ℕ → Option ℕ → ℕ → Row
 
 -- 0 for done, else the number of a refusal
 abbrev pub code : {A : Type 0} → Answer A → ℕ
@@ -161,6 +163,7 @@ rowHolds (takes qs r table o k codes) =
     ∷ code (append depots (l .bytes) (l .tail) (saves r table o) .newTail) ∷ []) codes
 rowHolds (reads p h f bs) = eqb (formatAt h 0) f && sameBacks (backsAt (theLayout .pointers) p h 0) bs
 rowHolds (due p qs f bs) = eqb (dueFormat p qs) f && sameBacks (dueBacks (theLayout .pointers) p qs) bs
+rowHolds (apart p q d) = eqb (distanceTo p q) d
 rowHolds (spoilt qs i bs a o) =
     let l = over (logBy 6 qs) i bs in
     let x = check depots (inLog depots l) in
@@ -300,6 +303,13 @@ later =
     ∷ spoilt (bench 1) (headerIn 3 + 6) (0 ∷ 4 ∷ []) 2 (some 3)
     ∷ spoilt (bench 1) (headerIn 1) (0x80 ∷ 0 ∷ 0 ∷ 2 ∷ 0 ∷ 0 ∷ 0 ∷ 0 ∷ 0 ∷ 0 ∷ 0 ∷ 0 ∷ []) 2 (some 1)
     ∷ spoilt (bench 1) (headerIn 1) (0x80 ∷ 0 ∷ 0 ∷ 2 ∷ 0xFF ∷ 0xFF ∷ 0xFF ∷ 0xFF ∷ 0xFF ∷ 0xFF ∷ 0xFF ∷ 0xFF ∷ []) 2 (some 1)
+    -- distances: none, the nearest, the farthest, one too far, and to offset 0
+    ∷ apart 70000 none 0
+    ∷ apart 70000 (some 69999) 1
+    ∷ apart 70000 (some 4465) 65535
+    ∷ apart 70000 (some 4464) 0
+    ∷ apart 65535 (some 0) 65535
+    ∷ apart 65536 (some 0) 0
     ∷ []
 
 pub later-worked : all rowHolds later ≡ true
