@@ -1,14 +1,12 @@
 -- Laws of rows in any order: what the row of a cell holds.
 -- Each is an induction over the cells; the case of a cell is whether it is the one looked for.
 use mathlib.Core.Path.{_≡_, refl, ap, ap₂, sym, _∙_}
-use mathlib.Core.Bool.{Bool, true, false, cond, _&&_}
+use mathlib.Core.Bool.{Bool, true, false, cond}
 use mathlib.Core.List.{List, [], _∷_}
 use mathlib.Core.Option.{none, some}
 use Prim.Native.Nat.{ℕ, zero, suc, _≤_, _<_}
 use native.Mathlib.Omega.{arith}
-use lib.Dec.{eqb}
 use lib.ListN.{length, getD}
-use borrow.Author.Tests.{eqb-true}
 use Rattle.lists.specs.Tests.{and-l, and-r}
 use Rattle.model.specs.Entries.{isNone}
 use Rattle.model.specs.Table.{Cell, isOf, heldBy, lookup}
@@ -93,9 +91,3 @@ row-once (c ∷ cs) o k (suc i) d a l e =
         absurd (omega arith)
 
 -- ---- two names of one cell
-
-pub same-cell : (o k o′ k′ : ℕ) (P : ℕ → ℕ → Type 0) → (eqb o o′ && eqb k k′) ≡ true → P o k → P o′ k′
-same-cell o k o′ k′ P e x =
-    let p : o ≡ o′ = eqb-true o o′ (and-l (eqb o o′) (eqb k k′) e) in
-    let q : k ≡ k′ = eqb-true k k′ (and-r (eqb o o′) (eqb k k′) e) in
-    rw (← p, ← q) x

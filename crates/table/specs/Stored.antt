@@ -20,7 +20,7 @@ use Rattle.model.specs.Slot.{valueField}
 use Rattle.model.specs.Rules.{fits}
 use Rattle.model.specs.Table.{Cell, cellAt, cellBytes, cellsOf, tableWith, isOf, heldBy, lookup, cellOf, presentField, cellSize}
 use Rattle.laws.proofs.Items.{fitsCell, length-cell}
-use Rattle.laws.proofs.Tables.{length-cells, length-stored, table-back, cells-fit}
+use Rattle.laws.proofs.Tables.{length-cells, length-stored, table-back}
 use Rattle.table.specs.Rows.{rowIn}
 use Rattle.table.specs.RowLaws.{row-some, row-le}
 
@@ -121,13 +121,6 @@ module _ (t : List ℕ) (bytes : all (λ x. ltb x 256) t ≡ true) (count : ℕ)
       ap (λ (s : List ℕ). splice s (cellSize * i) (cellBytes c)) (sym (table-back t bytes count room) ∙ ap (tableWith t) split ∙ with-mid t p old q count (ap length (sym split) ∙ n))
       ∙ splice-mid (joined cellBytes p) (cellBytes old) (cellBytes c) (joined cellBytes q ++ drop (cellSize * count) t) (cellSize * i) at (length-cell old ∙ sym (length-cell c))
       ∙ sym (ap (tableWith t) new ∙ with-mid t p c q count (ap length (sym new) ∙ length-set cs i c ∙ n))
-
--- ---- the cells then
-
-module _ (t : List ℕ) (bytes : all (λ x. ltb x 256) t ≡ true) (count : ℕ) where
-  -- the value of a cell fits its bytes
-  pub value-fits : (o k : ℕ) {h : Held} → lookup (cellsOf t count) o k ≡ some h → fits 4 (valueField (h .content)) ≡ true
-  value-fits o k {h} e = lookup-fits (cellsOf t count) (cells-fit t bytes count) o k h e
 
 -- ---- the bytes of a table with cells
 
