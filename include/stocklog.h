@@ -8,9 +8,10 @@
  *
  * - A slice is a pointer and a length in elements, in that order.
  * - The result is STOCKLOG_DONE, or the number of a refusal.
- * - The last argument, out, is written whole on every return, whatever was in it: values in out[0] to out[2], and in out[3] the
- *   offset told by STOCKLOG_BAD_ENTRY, by STOCKLOG_FALSE_RECORD and by the audit's STOCKLOG_NO_ROOM. A place in which nothing
- *   is said is 0. So out[3] is 0 for every other answer; it is also 0 where the offset told is 0: the result tells the two apart.
+ * - The last argument, out, is written whole on every return, whatever was in it: values in out[0] to out[2], and in out[3] what a
+ *   refusal tells: an offset with STOCKLOG_BAD_ENTRY, STOCKLOG_FALSE_RECORD and the audit's STOCKLOG_NO_ROOM. A place in which
+ *   nothing is said is 0. So out[3] is 0 for every other answer; it is also 0 where the number told is 0: the result tells the
+ *   two apart.
  *   Unless a call's text says otherwise, out[0] to out[2] are 0 where the call is refused.
  * - No call keeps a pointer, allocates, has state of its own, or waits. Calls from several threads are safe as long as none of
  *   them writes what another uses.

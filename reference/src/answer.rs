@@ -1,4 +1,4 @@
-//! Answers: done, or refused with a number and the offset told (§13).
+//! Answers: done, or refused with a number and what is told (§13).
 
 pub const FRAME: u32 = 1;
 pub const BAD_ENTRY: u32 = 2;
@@ -19,10 +19,10 @@ pub const BEHIND: u32 = 14;
 #[derive(Clone, Copy, Debug, PartialEq, Eq)]
 pub enum Answer<T> {
     Done(T),
-    /// The offset is told by 2, by 11 and by the audit's 13.
+    /// An offset is told by 2, by 11 and by the audit's 13.
     Refused {
         number: u32,
-        offset: Option<u64>,
+        told: Option<u64>,
     },
 }
 
@@ -30,22 +30,19 @@ pub enum Answer<T> {
 #[derive(Clone, Copy, Debug, PartialEq, Eq)]
 pub struct Refusal {
     pub number: u32,
-    pub offset: Option<u64>,
+    pub told: Option<u64>,
 }
 
 /// Refuses with a number alone.
 pub fn refuse<T>(number: u32) -> Result<T, Refusal> {
-    Err(Refusal {
-        number,
-        offset: None,
-    })
+    Err(Refusal { number, told: None })
 }
 
-/// Refuses with a number and the offset it tells.
+/// Refuses with a number and what it tells.
 pub fn refuse_at<T>(number: u32, at: usize) -> Result<T, Refusal> {
     Err(Refusal {
         number,
-        offset: Some(at as u64),
+        told: Some(at as u64),
     })
 }
 
@@ -62,7 +59,7 @@ impl<T> From<Result<T, Refusal>> for Answer<T> {
     fn from(result: Result<T, Refusal>) -> Answer<T> {
         match result {
             Ok(value) => Answer::Done(value),
-            Err(Refusal { number, offset }) => Answer::Refused { number, offset },
+            Err(Refusal { number, told }) => Answer::Refused { number, told },
         }
     }
 }
@@ -87,12 +84,12 @@ impl<T> Answer<T> {
         }
     }
 
-    /// What is done, or `refused N at K`, with K the offset told or "-".
+    /// What is done, or `refused N at K`, with K what is told or "-".
     pub fn shown(self, done: impl FnOnce(T) -> String) -> String {
         match self {
             Answer::Done(value) => done(value),
-            Answer::Refused { number, offset } => {
-                let place = offset.map_or("-".to_string(), |offset| offset.to_string());
+            Answer::Refused { number, told } => {
+                let place = told.map_or("-".to_string(), |told| told.to_string());
                 format!("refused {number} at {place}")
             }
         }

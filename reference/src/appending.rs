@@ -111,15 +111,14 @@ impl Asking {
 }
 
 pub fn refused(number: u32) -> Answer<usize> {
-    let offset = None;
-    Answer::Refused { number, offset }
+    Answer::Refused { number, told: None }
 }
 
 /// Refusal 2 with its offset.
 pub fn bad_entry(at: u64) -> Answer<usize> {
     Answer::Refused {
         number: crate::answer::BAD_ENTRY,
-        offset: Some(at),
+        told: Some(at),
     }
 }
 

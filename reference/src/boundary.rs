@@ -17,25 +17,25 @@ pub struct Said {
     pub out: [u64; 8],
 }
 
-/// The number and the offset told; the values where done.
+/// The number and what is told; the values where done.
 fn said<T>(answer: Answer<T>, values: impl FnOnce(T) -> [u64; 3]) -> Said {
     match answer {
         Answer::Done(value) => Said {
             number: 0,
             out: first(values(value), 0),
         },
-        Answer::Refused { number, offset } => Said {
+        Answer::Refused { number, told } => Said {
             number,
-            out: first([0; 3], offset.unwrap_or(0)),
+            out: first([0; 3], told.unwrap_or(0)),
         },
     }
 }
 
-/// The number and the offset told, with these values whatever the answer is.
+/// The number and what is told, with these values whatever the answer is.
 fn said_with<T>(answer: Answer<T>, values: [u64; 3]) -> Said {
     let told = match answer {
         Answer::Done(_) => 0,
-        Answer::Refused { offset, .. } => offset.unwrap_or(0),
+        Answer::Refused { told, .. } => told.unwrap_or(0),
     };
     Said {
         number: answer.number(),
@@ -62,7 +62,7 @@ pub fn owed(log: &[u8], tail: usize) -> Said {
     })
 }
 
-/// Kind, number, headers, the offset told, items.
+/// Kind, number, headers, what is told, items.
 pub fn entry(log: &[u8], tail: usize, offset: u64) -> Said {
     let answer = log::entry(log, tail, offset);
     let mut said = said(answer, |entry| {

@@ -188,7 +188,7 @@ impl Asking {
     pub fn bad_entry(&mut self, tail: u32, stop: u64, at: u64) {
         let refusal = Answer::Refused {
             number: crate::answer::BAD_ENTRY,
-            offset: Some(at),
+            told: Some(at),
         };
         self.play(tail, stop, refusal);
     }
@@ -207,7 +207,7 @@ impl Asking {
 
     /// One that is refused, with the record as it was; 2 tells an offset.
     pub fn restores_not(&mut self, tail: u32, offset: u64, number: u32, at: Option<u64>) {
-        let refusal = Answer::Refused { number, offset: at };
+        let refusal = Answer::Refused { number, told: at };
         self.ask(Request::OpenAt { tail, offset }, Said::Restored(refusal));
     }
 
@@ -236,8 +236,8 @@ impl Asking {
         self.audited(tail, number, at);
     }
 
-    fn audited(&mut self, tail: u32, number: u32, offset: Option<u64>) {
-        let said = Said::Audited(Answer::Refused { number, offset }, self.record);
+    fn audited(&mut self, tail: u32, number: u32, told: Option<u64>) {
+        let said = Said::Audited(Answer::Refused { number, told }, self.record);
         self.ask(Request::Audit { tail }, said);
     }
 
@@ -292,8 +292,7 @@ pub fn record(hosted: u8, position: u64, count: u64) -> Record {
 }
 
 fn refused<T>(number: u32) -> Answer<T> {
-    let offset = None;
-    Answer::Refused { number, offset }
+    Answer::Refused { number, told: None }
 }
 
 /// The bytes of stdin for these cases.

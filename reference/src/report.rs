@@ -20,14 +20,14 @@ pub fn playlog(input: &[u8]) -> String {
     let mut table = vec![0; TABLE_CELLS * CELL];
     let audited = audit_whole(input, tail, &mut table);
     match audited.answer {
-        Answer::Refused { number, offset } => refusal(number, offset),
+        Answer::Refused { number, told } => refusal(number, told),
         Answer::Done(()) => outcomes(input, tail, &audited) + &cells(&table, &audited),
     }
 }
 
 /// The line of a refusal (15.3).
-fn refusal(number: u32, offset: Option<u64>) -> String {
-    let place = offset.map_or("-".to_string(), |offset| offset.to_string());
+fn refusal(number: u32, told: Option<u64>) -> String {
+    let place = told.map_or("-".to_string(), |told| told.to_string());
     format!("refused {number} at {place}\n")
 }
 

@@ -1,7 +1,7 @@
 //! The stored vectors of the programs: for each one its files stdin and stdout, under `crates/NAME`.
 //!
 //! stdin is a sequence of cases to its end, its numbers stored most significant byte first. stdout is what a program
-//! prints for all cases, in order. Numbers are decimal, with single spaces and '\n' ends; K is the offset told or "-".
+//! prints for all cases, in order. Numbers are decimal, with single spaces and '\n' ends; K is what is told or "-".
 //!
 //! # Reading
 //!

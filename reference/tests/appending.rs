@@ -14,8 +14,8 @@ use reference::slot::{Kind, SLOT};
 use reference::table::Row;
 use reference::Answer::{self, Done, Refused};
 
-fn refused<T>(number: u32, offset: Option<u64>) -> Answer<T> {
-    Refused { number, offset }
+fn refused<T>(number: u32, told: Option<u64>) -> Answer<T> {
+    Refused { number, told }
 }
 
 #[test]

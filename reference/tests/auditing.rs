@@ -110,8 +110,8 @@ fn stdin_reads_back_within_its_bounds() {
 
 /// A plain auditor: plays everything anew up to each entry that it judges.
 fn plainly(case: &Case, tail: usize, table: &[u8]) -> (u32, Option<u64>) {
-    if let Refused { number, offset } = check(&case.log, tail) {
-        return (number, offset);
+    if let Refused { number, told } = check(&case.log, tail) {
+        return (number, told);
     }
     let fresh = open_fresh(0xFF).done().unwrap();
     let to = |stop: u64| {
@@ -170,7 +170,7 @@ fn plainly(case: &Case, tail: usize, table: &[u8]) -> (u32, Option<u64>) {
 fn told(answer: Answer<()>) -> (u32, Option<u64>) {
     match answer {
         Done(()) => (0, None),
-        Refused { number, offset } => (number, offset),
+        Refused { number, told } => (number, told),
     }
 }
 

@@ -33,7 +33,7 @@ fn earlier(offsets: &[usize]) -> Nearest {
 fn bad_at(at: u64) -> Answer<()> {
     Answer::Refused {
         number: 2,
-        offset: Some(at),
+        told: Some(at),
     }
 }
 

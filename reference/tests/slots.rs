@@ -15,11 +15,11 @@ fn found(case: &Case) -> Expected {
         Answer::Done(()) => Expected::Good,
         Answer::Refused {
             number: 1,
-            offset: None,
+            told: None,
         } => Expected::Frame,
         Answer::Refused {
             number: 2,
-            offset: Some(at),
+            told: Some(at),
         } => Expected::Bad(at),
         other => panic!("{other:?}"),
     }
@@ -47,7 +47,7 @@ fn an_entry_is_judged_with_those_below_it_alone() {
             let cut = (at as usize + 1) * SLOT;
             let bad = Answer::Refused {
                 number: 2,
-                offset: Some(at),
+                told: Some(at),
             };
             assert_eq!(
                 check(&case.log[..cut], at as usize + 1),

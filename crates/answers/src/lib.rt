@@ -50,18 +50,18 @@ pub fn number_of(r: Refusal) -> u32
     }
 }
 
-// The offset that a refusal tells, or that it tells none.
+// What a refusal tells beside its number, or that it tells nothing.
 pub enum Told {
-    At(Offset),
+    Number(u64),
     Nothing,
 }
 
-pub fn offset_of(r: Refusal) -> Told
-    ensures { λ t. ⌜ toldIn t ≡ refusalIn r .offset ⌝ }
+pub fn told_of(r: Refusal) -> Told
+    ensures { λ t. ⌜ toldIn t ≡ refusalIn r .told ⌝ }
 {
     match r {
         Refusal::Frame => Told::Nothing,
-        Refusal::BadEntry(o) => Told::At(o),
+        Refusal::BadEntry(o) => Told::Number(o.0),
         Refusal::Request => Told::Nothing,
         Refusal::Closed => Told::Nothing,
         Refusal::Wide => Told::Nothing,
@@ -70,10 +70,10 @@ pub fn offset_of(r: Refusal) -> Told
         Refusal::Decided => Told::Nothing,
         Refusal::Full => Told::Nothing,
         Refusal::BadReplica => Told::Nothing,
-        Refusal::FalseRecord(o) => Told::At(o),
+        Refusal::FalseRecord(o) => Told::Number(o.0),
         Refusal::Waiting => Told::Nothing,
         Refusal::NoRoom => Told::Nothing,
-        Refusal::NoRoomAt(o) => Told::At(o),
+        Refusal::NoRoomAt(o) => Told::Number(o.0),
         Refusal::Behind => Told::Nothing,
     }
 }

@@ -88,7 +88,7 @@ read-all sh cells p scratch cs fits s o k c =
 
 abbrev told : Answer (Unit {0}) → ℕ
 told (done a) = 0
-told (refused r) = ifSome (r .offset) 0 (λ o. o)
+told (refused r) = ifSome (r .told) 0 (λ o. o)
 
 data Verdict (sh : Shape) (h : History) (scratch : List ℕ) (out : Left) : Type 0 where
   passed : out .answer ≡ done tt → HasRoom sh (wholeLog sh h) (ranTo sh h) scratch → ((d : ℕ) → d < wholeLog sh h .tail → Agrees sh (wholeLog sh h) (ranTo sh h) d) → Verdict sh h scratch out

@@ -9,10 +9,10 @@ use Rattle.model.specs.Entries.{Log}
 use Rattle.model.specs.Slot.{mostSlots}
 use Rattle.model.specs.Rules.{lowestBad}
 
--- a number of the table, with the offset that it tells
+-- a number of the table, and what it tells beside it (13.1)
 pub record Refusal : Type 0 where
   pub number : ℕ
-  pub offset : Option ℕ
+  pub told : Option ℕ
 
 -- a call's answer: done, with a value, or a refusal
 pub data Answer (A : Type 0) : Type 0 where
@@ -21,12 +21,12 @@ pub data Answer (A : Type 0) : Type 0 where
 
 -- one test of a call's order (13.5): the refusal n where b holds
 abbrev pub refuse : ℕ → Bool → Option Refusal
-refuse n b = cond b (some (record { number = n; offset = none })) none
+refuse n b = cond b (some (record { number = n; told = none })) none
 
--- the same where an offset was found, which it tells
+-- the same where something was found, which it tells
 abbrev pub refuseAt : ℕ → Option ℕ → Option Refusal
 refuseAt n none = none
-refuseAt n (some o) = some (record { number = n; offset = some o })
+refuseAt n (some o) = some (record { number = n; told = some o })
 
 -- the first of the tests that refuses
 abbrev pub firstOf : List (Option Refusal) → Option Refusal

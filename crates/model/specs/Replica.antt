@@ -21,7 +21,7 @@ pub record Left : Type 0 where
   pub table : List ℕ
 
 abbrev pub plainly : ℕ → Answer (Unit {0})
-plainly n = refused (record { number = n; offset = none })
+plainly n = refused (record { number = n; told = none })
 
 -- a record at position p with these cells, and its table
 abbrev pub leftWith : Answer (Unit {0}) → ℕ → ℕ → List ℕ → List Cell → Left
@@ -61,7 +61,7 @@ unopened r table = record { answer = refused r; replica = noReplica; table = tab
 -- what an opening at a checkpoint leaves (8.2)
 abbrev pub openGiven : Shape → ℕ → List ℕ → Option Refusal → Option Checkpoint → Left
 openGiven sh o table (some r) c = unopened r table
-openGiven sh o table none none = unopened (record { number = 3; offset = none }) table
+openGiven sh o table none none = unopened (record { number = 3; told = none }) table
 openGiven sh o table none (some c) = leftWith (done tt) (setOf sh (c .object)) (o + 1) table (c .cells)
 
 unfoldable pub openAt : Shape → Log → ℕ → List ℕ → Left

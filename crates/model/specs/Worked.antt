@@ -49,14 +49,14 @@ bench v = update 0 (put 2 7 43) ∷ update 9 (put 2 7 42) ∷ update 10 (put 2 7
 abbrev pub sparse : Log
 sparse = record { size = 0; used = []; tail = 65537; entry = λ o. checkpoint (cond (eqb o 0) 2 1) [] }
 
--- What a call on a replica answers (0 for done), the offset that it tells, and the position and the cells that it leaves.
+-- What a call on a replica answers (0 for done), what it tells, and the position and the cells that it leaves.
 pub record Ends : Type 0 where
   pub answers : ℕ
   pub told : Option ℕ
   pub position : ℕ
   pub cells : List Cell
 
--- done at a position; refused, telling no offset
+-- done at a position; refused, telling nothing
 abbrev pub ends : ℕ → List Cell → Ends
 ends p cs = record { answers = 0; told = none; position = p; cells = cs }
 
@@ -93,10 +93,10 @@ abbrev pub code : {A : Type 0} → Answer A → ℕ
 code (done a) = 0
 code (refused r) = r .number
 
--- the offset that a refusal tells
+-- what a refusal tells
 abbrev pub tells : {A : Type 0} → Answer A → Option ℕ
 tells (done a) = none
-tells (refused r) = r .offset
+tells (refused r) = r .told
 
 abbrev pub sameOffset : Option ℕ → Option ℕ → Bool
 sameOffset x y = sameContent x y

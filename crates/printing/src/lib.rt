@@ -25,14 +25,14 @@ pub fn line_end() {
     io::write_all(1, b"\n");
 }
 
-// The line of a refusal: its number, and the offset told or "-" (15.3).
+// The line of a refusal: its number, and what is told or "-" (15.3).
 pub fn refusal(r: Refusal) {
     io::write_all(1, b"refused ");
     number(answers::number_of(r) as u64);
     io::write_all(1, b" at ");
-    let o = answers::offset_of(r);
-    match o {
-        Told::At(k) => number(k.0),
+    let t = answers::told_of(r);
+    match t {
+        Told::Number(k) => number(k),
         Told::Nothing => {
             io::write_all(1, b"-");
         }

@@ -25,7 +25,7 @@ nth-below f i (suc n) (suc k) l =
     let e : suc i + k ≡ i + suc k = omega arith in
     nth-below f (suc i) n k (omega arith) ∙ ap (λ (m : ℕ). done (f m)) e
 
-nth-above : (f : ℕ → Header) (i n k : ℕ) → n ≤ k → nth (rows.values f i n) k ≡ refused (record { number = 3; offset = none })
+nth-above : (f : ℕ → Header) (i n k : ℕ) → n ≤ k → nth (rows.values f i n) k ≡ refused (record { number = 3; told = none })
 unfolding rows.values
 nth-above f i zero k l = refl
 nth-above f i (suc n) zero l = absurd (omega arith)
@@ -36,7 +36,7 @@ pub place-is : (i : Info) {k : ℕ} (p : ℕ) → k ≡ p → k < i .headers →
 place-is i {k} p e l = sym (nth-below (placed i) 0 (i .headers) k l ∙ ap (λ (m : ℕ). done (placed i m)) (zero-add k ∙ e))
 
 -- not below the number of headers
-pub place-above : (i : Info) (k : ℕ) → i .headers ≤ k → refused (record { number = 3; offset = none }) ≡ nth (infoOf i .headers) k
+pub place-above : (i : Info) (k : ℕ) → i .headers ≤ k → refused (record { number = 3; told = none }) ≡ nth (infoOf i .headers) k
 place-above i k l = sym (nth-above (placed i) 0 (i .headers) k l)
 
 -- none of the four

@@ -9,11 +9,11 @@ use Rattle.stocklog.specs.Replies.{Values, values, Reply, Replied, reply
 use Rattle.stocklog.specs.declared.numbers.Numbers.{Numbers}
 
 abbrev pub numbersIn : Numbers → Reply
-numbersIn n = reply (n .number) (values (n .first) (n .second) (n .third)) (n .offset)
+numbersIn n = reply (n .number) (values (n .first) (n .second) (n .third)) (n .told)
 
--- a refusal's number, and the offset that it tells or 0
-pub refusal-is : (r : Refusal) (v : Values) {n o : ℕ} {told : Option ℕ} → n ≡ refusalIn r .number → told ≡ refusalIn r .offset → orZero told ≡ o
-    → reply n v o ≡ reply (refusalIn r .number) v (orZero (refusalIn r .offset))
+-- a refusal's number, and what it tells or 0
+pub refusal-is : (r : Refusal) (v : Values) {n o : ℕ} {told : Option ℕ} → n ≡ refusalIn r .number → told ≡ refusalIn r .told → orZero told ≡ o
+    → reply n v o ≡ reply (refusalIn r .number) v (orZero (refusalIn r .told))
 refusal-is r v e f z = λ j. reply (e j) v ((sym z ∙ ap orZero f) j)
 
 -- a reply beside a lent slice

@@ -38,10 +38,10 @@ orZero none = 0
 orZero (some o) = o
 
 -- Done: 0, and in `out` the call's three values and 0.
--- Refused: its number (13.3), and in `out` what the call says beside a refusal, and the offset told or 0.
+-- Refused: its number (13.3), and in `out` what the call says beside a refusal, and what is told or 0.
 abbrev pub coded : {A : Type 0} → (A → Values) → Values → Answer A → Reply
 coded said beside (done a) = reply 0 (said a) 0
-coded said beside (refused r) = reply (r .number) beside (orZero (r .offset))
+coded said beside (refused r) = reply (r .number) beside (orZero (r .told))
 
 -- the same, with a lent slice as it is left
 pub record Replied : Type 0 where
@@ -77,7 +77,7 @@ entryReply a = longer (coded infoValues noValues a) (itemsTold a)
 
 -- one of the headers by its place, or 3
 abbrev pub nth : List Header → ℕ → Answer Header
-nth [] k = refused (record { number = 3; offset = none })
+nth [] k = refused (record { number = 3; told = none })
 nth (h ∷ hs) zero = done h
 nth (h ∷ hs) (suc k) = nth hs k
 

@@ -1,4 +1,4 @@
-// An answer as five numbers: the one returned, the three values of `out`, and the offset told or 0.
+// An answer as five numbers: the one returned, the three values of `out`, and what a refusal tells or 0.
 ghost use mathlib.Core.Path.{_≡_};
 ghost use Rattle.answers.specs.Refusals.{refusalIn};
 ghost use Rattle.stocklog.specs.Replies.{values, reply, orZero, longer};
@@ -11,7 +11,7 @@ pub struct Numbers {
     pub first: u64,
     pub second: u64,
     pub third: u64,
-    pub offset: u64,
+    pub told: u64,
 }
 
 // Done, with three values.
@@ -23,30 +23,30 @@ pub fn done(a: u64, b: u64, c: u64) -> Numbers
         first: a,
         second: b,
         third: c,
-        offset: 0,
+        told: 0,
     }
 }
 
 // A refusal, with three values.
 pub fn refusal(r: Refusal, a: u64, b: u64, c: u64) -> Numbers
-    ensures { λ n. ⌜ numbersIn n ≡ reply (refusalIn r .number) (values a b c) (orZero (refusalIn r .offset)) ⌝ }
+    ensures { λ n. ⌜ numbersIn n ≡ reply (refusalIn r .number) (values a b c) (orZero (refusalIn r .told)) ⌝ }
 {
     let number = answers::number_of(r);
-    let t = answers::offset_of(r);
+    let t = answers::told_of(r);
     match t {
-        Told::At(o) => Numbers {
+        Told::Number(n) => Numbers {
             number: number,
             first: a,
             second: b,
             third: c,
-            offset: o.0,
+            told: n,
         },
         Told::Nothing => Numbers {
             number: number,
             first: a,
             second: b,
             third: c,
-            offset: 0,
+            told: 0,
         },
     }
 }
@@ -55,7 +55,7 @@ pub fn refusal(r: Refusal, a: u64, b: u64, c: u64) -> Numbers
 pub fn put(out: &mut [u64; 4], n: Numbers) -> u32
     ensures { λ r. ⌜ record { number = r; out = now (out .exit) } ≡ numbersIn n ⌝ }
 {
-    *out = [n.first, n.second, n.third, n.offset];
+    *out = [n.first, n.second, n.third, n.told];
     n.number
 }
 
@@ -63,6 +63,6 @@ pub fn put(out: &mut [u64; 4], n: Numbers) -> u32
 pub fn put_eight(out: &mut [u64; 8], n: Numbers, items: u64) -> u32
     ensures { λ r. ⌜ record { number = r; out = now (out .exit) } ≡ longer (numbersIn n) items ⌝ }
 {
-    *out = [n.first, n.second, n.third, n.offset, items, 0, 0, 0];
+    *out = [n.first, n.second, n.third, n.told, items, 0, 0, 0];
     n.number
 }

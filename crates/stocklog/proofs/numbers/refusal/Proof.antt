@@ -1,4 +1,4 @@
--- The number is the refusal's; the offset is the one told, or 0 where none is.
+-- The number is the refusal's; beside it stands what is told, or 0 where nothing is.
 use mathlib.Core.Path.{ap}
 use Rattle.answers.specs.Refusals.{toldIn}
 use Rattle.stocklog.specs.Replies.{values, orZero}
@@ -14,13 +14,13 @@ returns : tie.Need-returns
 returns c =
     let k = c .before .before in
     let a = k .before .before .before .args in
-    refusal-is (a .r) (values (a .a) (a .b) (a .c)) (k .before .before .number-of .ensures) (k .before .offset-of .ensures) (ap (λ x. orZero (toldIn x)) (c .before .t .given .1))
+    refusal-is (a .r) (values (a .a) (a .b) (a .c)) (k .before .before .number-of .ensures) (k .before .told-of .ensures) (ap (λ x. orZero (toldIn x)) (c .before .t .given .1))
 
 returns-2 : tie.Need-returns-2
 returns-2 c =
     let k = c .before in
     let a = k .before .before .before .args in
-    refusal-is (a .r) (values (a .a) (a .b) (a .c)) (k .before .before .number-of .ensures) (k .before .offset-of .ensures) (ap (λ x. orZero (toldIn x)) (c .enum-told .given .1))
+    refusal-is (a .r) (values (a .a) (a .b) (a .c)) (k .before .before .number-of .ensures) (k .before .told-of .ensures) (ap (λ x. orZero (toldIn x)) (c .enum-told .given .1))
 
 pub refusal-spec : {M : Type 1} → statement M
 refusal-spec =

@@ -1,21 +1,21 @@
--- Each case of a refusal with the offset that it holds.
+-- Each case of a refusal with what it tells.
 use mathlib.Core.Path.{ap, sym}
 use Rattle.answers.specs.Refusals.{refusalIn}
 use borrow.Author.Needs.{needs}
-use Rattle.answers.proofs.offset_of.Statement.{statement}
-use Rattle.answers.proofs.offset_of.Tie as tie
+use Rattle.answers.proofs.told_of.Statement.{statement}
+use Rattle.answers.proofs.told_of.Tie as tie
 
 returns-2 : tie.Need-returns-2
-returns-2 c = sym (ap (λ x. refusalIn x .offset) (c .before .r .given .1))
+returns-2 c = sym (ap (λ x. refusalIn x .told) (c .before .r .given .1))
 
 returns-11 : tie.Need-returns-11
-returns-11 c = sym (ap (λ x. refusalIn x .offset) (c .before .r2 .given .1))
+returns-11 c = sym (ap (λ x. refusalIn x .told) (c .before .r2 .given .1))
 
 returns-14 : tie.Need-returns-14
-returns-14 c = sym (ap (λ x. refusalIn x .offset) (c .before .r3 .given .1))
+returns-14 c = sym (ap (λ x. refusalIn x .told) (c .before .r3 .given .1))
 
-pub offset-of-spec : {M : Type 1} → statement M
-offset-of-spec =
+pub told-of-spec : {M : Type 1} → statement M
+told-of-spec =
     tie.close
     (tie.spec
     (λ c. search needs)
