@@ -13,21 +13,23 @@ use lib.ListN.{length}
 use Rattle.lists.specs.Tests.{ands, ors, both, neither, or-case, clash}
 use Rattle.lists.specs.Sets.{all, isEmpty, mem}
 use Rattle.model.specs.Objects.{Shape, isObject, hosted}
-use Rattle.model.specs.Entries.{Write, Condition, Commit, commit, Log, commitAt, writesOf, closed, decided, isNone}
+use Rattle.model.specs.Entries.{Write, Condition, Commit, commit, Log, commitAt, astray, writesOf, closed, decided, isNone}
 use Rattle.model.specs.Slot.{writeAt, readAt, logIn, okShape}
 use Rattle.model.specs.Rules.{fits, okWrites, narrow, okReads, okSaved, okOutcome, okNumber, lowestBad}
 use Rattle.model.specs.Table.{Cell, cellsOf, inOrder, capacity}
-use Rattle.model.specs.Answers.{Refusal, refuse, refuseAt, firstOf, slots, badFrame, frameAndEntries}
+use Rattle.model.specs.Answers.{Refusal, refuse, refuseAt, firstPlace, firstOf, slots, badFrame, frameAndEntries}
 use Rattle.model.specs.Append.{Replica, Request, update, commits, decides, saves, writesGiven, conditionGiven, savedGiven, notWhole, badReplica, ifNumbered, ownTests, appendRefusal}
 use Rattle.model.specs.Histories.{Lent, inLog, isRefused, Accepted}
-use Rattle.model.specs.Terms.{SetAside, Committed, UpdateAllowed, CommitAllowed, DecisionAllowed, CheckpointAllowed, Allowed, Unstopped}
+use Rattle.model.specs.Terms.{SetAside, Committed, UpdateAllowed, CommitAsked, CommitAllowed, DecisionAllowed, CheckpointAllowed, Allowed, Unstopped}
 use Rattle.model.specs.Claims.{AcceptsExactly}
 use Rattle.laws.proofs.Directory.{hosted-listed}
 use Rattle.laws.proofs.Sizes.{layout, slots-fit, slots-free}
 use Rattle.laws.proofs.Refusals.{AllPass, all-pass, refuse-none, refuseAt-none, not-none, good-below, below-good}
 use Rattle.laws.proofs.Appends.{has-room, passed, wrote}
+use Rattle.laws.proofs.Places.{no-place, place-none}
 use Rattle.laws.proofs.Decisions.{commit-entry}
 use Rattle.claims.proofs.Terms.{frame-words, words-frame, order-words, words-order, writes-aside, aside-writes, closed-words, words-closed, undecided-words, words-undecided}
+use Rattle.claims.proofs.Stamps.{pointed-words, words-pointed}
 use Rattle.claims.proofs.Words.{whole-words, words-whole, numbered-if, if-numbered, writes-words, words-writes, narrow-words, words-narrow, reads-words, words-reads, cells-words, words-cells, keys-words, words-keys}
 
 -- ---- tests that pass
@@ -107,41 +109,56 @@ module _ (sh : Shape) (log : Log) where
   write-some [] w m = absurd (List·Memᴰ·not-nil m)
   write-some (v ∷ ws) w m = refl
 
-  commit-words : (n : ℕ) (items : List ℕ) → AllPass (ownTests sh log (commits n items)) → CommitAllowed sh log n items
-  unfolding ownTests
-  commit-words n items t =
-      let given : (notWhole items || not (okReads sh (log .tail) (conditionGiven items .reads)) || not (okNumber n)) ≡ false = refuse-none 3 _ (t .0) in
+  -- the tests of a commit before 16
+  abbrev pub badCommit : ℕ → List ℕ → Bool
+  badCommit n items = notWhole items || not (okReads sh (log .tail) (conditionGiven items .reads)) || not (okNumber n)
+
+  pub asked-words : (n : ℕ) (items : List ℕ) → badCommit n items ≡ false → closed log n (log .tail) ≡ false → isEmpty (writesOf log n (log .tail)) ≡ false → CommitAsked sh log n items
+  asked-words n items given still-open some-writes =
       let r = reads-words sh (log .tail) (conditionGiven items .reads) (not-false _ (search (ors, given))) in
       let number : okNumber n ≡ true = not-false _ (search (ors, given)) in
       let some : n ≡ 0 → ⊥ = eqb-false n 0 (not-true _ (search ands)) in
-      let (w, m) = some-write (writesOf log n (log .tail)) (refuse-none 6 _ (t .1 .1 .0)) in
+      let (w, m) = some-write (writesOf log n (log .tail)) some-writes in
       record {
         whole = whole-words readAt items (search (ors, given));
         number = (omega arith, ltb-true n (256 ^ 4) (search ands));
         few = r .0;
         each = r .1;
         ascend = r .2;
-        uncommitted = open-words log n (refuse-none 4 _ (t .1 .0));
+        uncommitted = open-words log n still-open;
         updated = (w, writes-aside log n (log .tail) w m);
       }
 
-  words-commit : (n : ℕ) (items : List ℕ) → CommitAllowed sh log n items → log .tail < slots sh.layout log → AllPass (ownTests sh log (commits n items))
-  unfolding ownTests
-  words-commit n items a free = (
-    passing 3 _ given,
-    (passing 4 _ (words-open log n (a .uncommitted)), (passing 6 _ updated, (passing 9 _ (lt-leb (slots sh.layout log) (log .tail) free), tt))),
-  )
+  pub words-asked : (n : ℕ) (items : List ℕ) → CommitAsked sh log n items
+      → (badCommit n items ≡ false) × (closed log n (log .tail) ≡ false) × (isEmpty (writesOf log n (log .tail)) ≡ false)
+  words-asked n items a = (given, words-open log n (a .uncommitted), updated)
     where
       some : n ≡ 0 → ⊥
       some = omega (arith, a .number .0)
 
-      given : (notWhole items || not (okReads sh (log .tail) (conditionGiven items .reads)) || not (okNumber n)) ≡ false
+      given : badCommit n items ≡ false
       given =
           neither (neither (words-whole readAt items (a .whole)) (ap not (words-reads sh (log .tail) (conditionGiven items .reads) (a .few) (a .each) (a .ascend))))
           (ap not (both (ap not (ne-eqb n 0 some)) (lt-ltb n (256 ^ 4) (a .number .1))))
 
       updated : isEmpty (writesOf log n (log .tail)) ≡ false
       updated = let (w, s) = a .updated in write-some (writesOf log n (log .tail)) w (aside-writes log n (log .tail) w s)
+
+  commit-words : (n : ℕ) (items : List ℕ) → AllPass (ownTests sh log (commits n items)) → CommitAllowed sh log n items
+  unfolding ownTests
+  commit-words n items t =
+      let found = refuseAt-none 16 (firstPlace (astray log) (conditionGiven items .reads)) (t .1 .1 .1 .0) in
+      record {
+        asked = asked-words n items (refuse-none 3 _ (t .0)) (refuse-none 4 _ (t .1 .0)) (refuse-none 6 _ (t .1 .1 .0));
+        pointed = λ x m. pointed-words log x (no-place (astray log) (conditionGiven items .reads) found x m);
+      }
+
+  words-commit : (n : ℕ) (items : List ℕ) → CommitAllowed sh log n items → log .tail < slots sh.layout log → AllPass (ownTests sh log (commits n items))
+  unfolding ownTests
+  words-commit n items a free =
+      let (given, still-open, updated) = words-asked n items (a .asked) in
+      let found : firstPlace (astray log) (conditionGiven items .reads) ≡ none = place-none (astray log) (conditionGiven items .reads) (λ x m. words-pointed log x (a .pointed x m)) in
+      (passing 3 _ given, (passing 4 _ still-open, (passing 6 _ updated, (ap (refuseAt 16) found, (passing 9 _ (lt-leb (slots sh.layout log) (log .tail) free), tt)))))
 
   -- a commit record at an offset
   commit-there : (o : ℕ) → isNone (commitAt log o) ≡ false → (n : ℕ) × (c : Condition) × (log .entry o ≡ commit n c)

@@ -7,6 +7,7 @@ pub mod Few
 pub mod Later
 pub mod Saved
 pub mod Words
+pub mod Stamps
 pub mod Accepts
 pub mod Counts
 pub mod Cells

@@ -59,7 +59,7 @@ objects-told ly s = map-values (λ (x : Header). x .object) (λ i. headerAt s (h
 items-given : (sh : Shape) (log : Log) (q : Request) → Allowed sh log q → ItemsGiven q (itemBytes (entryOf log q))
 unfolding entryOf itemBytes
 items-given sh log (update n items) a = λ bytes. update-items n (writesGiven items) ∙ given-writes items bytes (omega (arith, a .whole))
-items-given sh log (commits n items) a = λ bytes. given-reads items bytes (omega (arith, a .whole))
+items-given sh log (commits n items) a = λ bytes. given-reads items bytes (omega (arith, a .asked .whole))
 items-given sh log (decides o v) a = refl
 items-given sh log (saves r table o) a =
     let cells : List Cell = cellsOf table (r .count) in

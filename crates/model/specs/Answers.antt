@@ -1,11 +1,11 @@
 -- Refusals, and the order in which they are tested (specification §13).
-use Prim.Native.Nat.{ℕ, _/_, _%_}
+use Prim.Native.Nat.{ℕ, suc, _/_, _%_}
 use mathlib.Core.Bool.{Bool, cond, not, _||_}
 use mathlib.Core.List.{List, [], _∷_}
 use mathlib.Core.Option.{Option, none, some}
 use lib.Dec.{eqb, ltb}
 use Rattle.model.specs.Objects.{Layout, Shape}
-use Rattle.model.specs.Entries.{Log}
+use Rattle.model.specs.Entries.{Log, ifSome}
 use Rattle.model.specs.Slot.{mostSlots}
 use Rattle.model.specs.Rules.{lowestBad}
 
@@ -27,6 +27,11 @@ refuse n b = cond b (some (record { number = n; told = none })) none
 abbrev pub refuseAt : ℕ → Option ℕ → Option Refusal
 refuseAt n none = none
 refuseAt n (some o) = some (record { number = n; told = some o })
+
+-- the place, from 0, of the first element that passes a test, which 16 tells (13.3)
+unfoldable pub firstPlace : {A : Type 0} → (A → Bool) → List A → Option ℕ
+firstPlace f [] = none
+firstPlace f (x ∷ xs) = cond (f x) (some 0) (ifSome (firstPlace f xs) none (λ i. some (suc i)))
 
 -- the first of the tests that refuses
 abbrev pub firstOf : List (Option Refusal) → Option Refusal

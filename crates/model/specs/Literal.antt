@@ -13,12 +13,12 @@ use Rattle.lists.specs.Rows.{values, joined}
 use Rattle.lists.specs.First.{first, firstFrom}
 use Rattle.lists.specs.Equal.{eqList}
 use Rattle.model.specs.Objects.{Object, ObjectKind, aMap, aRegister, theObjects, theLayout, depots, ids, isObject, isCell, isMarked, hosted, setOf, everything}
-use Rattle.model.specs.Entries.{Held, Saved, Entry, isNone, numbered, commit, decision, checkpoint, Log, writesOf, closed, decided, headerObjects, numberOf, earlier}
+use Rattle.model.specs.Entries.{Held, Saved, Entry, isNone, numbered, commit, decision, checkpoint, Log, writesOf, stamps, astray, closed, decided, headerObjects, numberOf, earlier}
 use Rattle.model.specs.Slot.{valueField, headerWith, writeBytes, writeAt, readBytes, readAt, savedBytes, savedAt, itemBytes, itemCount, headerOf, slotOf, decode, slot, logIn, objectsIn}
 use Rattle.model.specs.Rules.{okEntry, lowest, lowestBad, okWrite, okWrites, okRead, okReads, okSaved, narrow, goodAt, repeats}
 use Rattle.model.specs.Table.{cellAt, cellBytes, cellsOf, tableWith, apply, savedOf, lookup, inOrder, store}
 use Rattle.model.specs.Play.{play, commitsOver, step}
-use Rattle.model.specs.Answers.{Answer, done, refused, badFrame}
+use Rattle.model.specs.Answers.{Answer, done, refused, firstPlace, badFrame}
 use Rattle.model.specs.Append.{Request, update, commits, decides, saves, decisionOf, entryOf, ownTests, append}
 use Rattle.model.specs.Replica.{openFresh, playCall, readCell}
 use Rattle.model.specs.Histories.{grown}
@@ -38,7 +38,7 @@ kinds =
     ∷ update number (put 6 0 0x00FF0001 ++ put 2 0x01F3 0x0100)
     ∷ update number (put 4 0x11 0x11223344)
     ∷ commits number (read 1 0x0102 0 ++ read 1 0x270F 1 ++ read 2 0 0 ++ read 2 0x01F3 1 ++ read 3 0x0102 0 ++ read 3 0x0103 1
-    ++ read 4 0x11 0 ++ read 5 0x0102 1 ++ read 5 0x1234 1 ++ read 6 0 0 ++ read 7 0 0 ++ read 8 0 3)
+    ++ read 4 0x11 0 ++ read 5 0x0102 0 ++ read 5 0x1234 1 ++ read 6 0 0 ++ read 7 0 0 ++ read 8 0 0)
     ∷ decides 3 2
     ∷ saves (record { hosting = 0x32; position = 5; count = 4 })
     (cellBytes (cell 2 0x01F3 (some 0xA0B0C0D0) 1) ++ cellBytes (cell 5 0x0102 none 1) ++ cellBytes (cell 5 0x1234 (some 0x01020304) 1)
@@ -98,11 +98,11 @@ slot3 =
     ∷ 0x00 ∷ 0x00 ∷ 0x00 ∷ 0x03 ∷ 0x00 ∷ 0x00 ∷ 0x01 ∷ 0x02 ∷ 0x00 ∷ 0x00 ∷ 0x00 ∷ 0x00 ∷ 0x00 ∷ 0x00 ∷ 0x00 ∷ 0x00
     ∷ 0x00 ∷ 0x00 ∷ 0x00 ∷ 0x03 ∷ 0x00 ∷ 0x00 ∷ 0x01 ∷ 0x03 ∷ 0x00 ∷ 0x00 ∷ 0x00 ∷ 0x00 ∷ 0x00 ∷ 0x00 ∷ 0x00 ∷ 0x01
     ∷ 0x00 ∷ 0x00 ∷ 0x00 ∷ 0x04 ∷ 0x00 ∷ 0x00 ∷ 0x00 ∷ 0x11 ∷ 0x00 ∷ 0x00 ∷ 0x00 ∷ 0x00 ∷ 0x00 ∷ 0x00 ∷ 0x00 ∷ 0x00
-    ∷ 0x00 ∷ 0x00 ∷ 0x00 ∷ 0x05 ∷ 0x00 ∷ 0x00 ∷ 0x01 ∷ 0x02 ∷ 0x00 ∷ 0x00 ∷ 0x00 ∷ 0x00 ∷ 0x00 ∷ 0x00 ∷ 0x00 ∷ 0x01
+    ∷ 0x00 ∷ 0x00 ∷ 0x00 ∷ 0x05 ∷ 0x00 ∷ 0x00 ∷ 0x01 ∷ 0x02 ∷ 0x00 ∷ 0x00 ∷ 0x00 ∷ 0x00 ∷ 0x00 ∷ 0x00 ∷ 0x00 ∷ 0x00
     ∷ 0x00 ∷ 0x00 ∷ 0x00 ∷ 0x05 ∷ 0x00 ∷ 0x00 ∷ 0x12 ∷ 0x34 ∷ 0x00 ∷ 0x00 ∷ 0x00 ∷ 0x00 ∷ 0x00 ∷ 0x00 ∷ 0x00 ∷ 0x01
     ∷ 0x00 ∷ 0x00 ∷ 0x00 ∷ 0x06 ∷ 0x00 ∷ 0x00 ∷ 0x00 ∷ 0x00 ∷ 0x00 ∷ 0x00 ∷ 0x00 ∷ 0x00 ∷ 0x00 ∷ 0x00 ∷ 0x00 ∷ 0x00
     ∷ 0x00 ∷ 0x00 ∷ 0x00 ∷ 0x07 ∷ 0x00 ∷ 0x00 ∷ 0x00 ∷ 0x00 ∷ 0x00 ∷ 0x00 ∷ 0x00 ∷ 0x00 ∷ 0x00 ∷ 0x00 ∷ 0x00 ∷ 0x00
-    ∷ 0x00 ∷ 0x00 ∷ 0x00 ∷ 0x08 ∷ 0x00 ∷ 0x00 ∷ 0x00 ∷ 0x00 ∷ 0x00 ∷ 0x00 ∷ 0x00 ∷ 0x00 ∷ 0x00 ∷ 0x00 ∷ 0x00 ∷ 0x03
+    ∷ 0x00 ∷ 0x00 ∷ 0x00 ∷ 0x08 ∷ 0x00 ∷ 0x00 ∷ 0x00 ∷ 0x00 ∷ 0x00 ∷ 0x00 ∷ 0x00 ∷ 0x00 ∷ 0x00 ∷ 0x00 ∷ 0x00 ∷ 0x00
     ∷ zeros 8
 
 -- 4, decision record for 3, abort: number and objects as in the commit record
@@ -138,7 +138,7 @@ slot6 =
 -- the log that the appends leave in eight slots: seven entries, and the last slot as it was
 pub entries-written : (let l = logBy 8 kinds in
     eqb (l .tail) 7 && eqList (l .bytes) (slot0 ++ slot1 ++ slot2 ++ slot3 ++ slot4 ++ slot5 ++ slot6 ++ replicate 256 7)) ≡ true
-unfolding beAt bytesOf splice values joined first firstFrom eqList writesOf closed decided headerObjects earlier writeBytes writeAt readBytes readAt savedBytes savedAt itemBytes itemCount headerOf slotOf decode slot logIn okEntry lowest lowestBad cellAt cellBytes cellsOf inOrder savedOf commitsOver entryOf ownTests append grown isObject isCell isMarked hosted okWrite okWrites okRead okReads okSaved narrow goodAt badFrame objectsIn repeats
+unfolding beAt bytesOf splice values joined first firstFrom eqList writesOf stamps astray closed decided headerObjects earlier writeBytes writeAt readBytes readAt savedBytes savedAt itemBytes itemCount headerOf slotOf decode slot logIn okEntry lowest lowestBad cellAt cellBytes cellsOf inOrder savedOf commitsOver entryOf firstPlace ownTests append grown isObject isCell isMarked hosted okWrite okWrites okRead okReads okSaved narrow goodAt badFrame objectsIn repeats
 entries-written = refl
 
 -- Table cells: object, key, value, present, version. Object 5 played over entry 0 and a table of 50 bytes: a removed cell, whose key is
@@ -158,7 +158,7 @@ pub cells-written : (
     && shows (readCell depots (record { hosting = 0x10; position = 0; count = 1 }) (
     0x00 ∷ 0x00 ∷ 0x00 ∷ 0x05 ∷ 0x00 ∷ 0x00 ∷ 0x12 ∷ 0x34 ∷ 0xA0 ∷ 0xB0 ∷ 0xC0 ∷ 0xD0 ∷ 0x00 ∷ 0x00 ∷ 0x00 ∷ 0x01
     ∷ 0x01 ∷ 0x02 ∷ 0x03 ∷ 0x04 ∷ 0x05 ∷ 0x06 ∷ 0x07 ∷ 0x08 ∷ []) 5 0x1234) 0x0102030405060708 0xA0B0C0D0) ≡ true
-unfolding beAt bytesOf splice values joined first firstFrom eqList writesOf closed decided headerObjects earlier writeBytes writeAt readBytes readAt savedBytes savedAt itemBytes itemCount headerOf slotOf decode slot logIn okEntry lowest lowestBad cellAt cellBytes cellsOf tableWith apply savedOf play commitsOver entryOf ownTests append openFresh playCall readCell grown isObject isCell isMarked hosted okWrite okWrites okRead okReads okSaved narrow goodAt lookup inOrder store step badFrame objectsIn repeats
+unfolding beAt bytesOf splice values joined first firstFrom eqList writesOf stamps astray closed decided headerObjects earlier writeBytes writeAt readBytes readAt savedBytes savedAt itemBytes itemCount headerOf slotOf decode slot logIn okEntry lowest lowestBad cellAt cellBytes cellsOf tableWith apply savedOf play commitsOver entryOf firstPlace ownTests append openFresh playCall readCell grown isObject isCell isMarked hosted okWrite okWrites okRead okReads okSaved narrow goodAt lookup inOrder store step badFrame objectsIn repeats
 cells-written = refl
 
 -- A long log, without bytes: object 2 has the update at 0 and its commit record at 0x0304, and every other entry is of object 1.

@@ -129,7 +129,17 @@ Ascend [] = Unit {0}
 Ascend (r ∷ []) = Unit {0}
 Ascend (r ∷ s ∷ rs) = ((r .object < s .object) ⊎ ((r .object ≡ s .object) × (r .key < s .key))) × Ascend (s ∷ rs)
 
-pub record CommitAllowed (sh : Shape) (log : Log) (n : ℕ) (items : List ℕ) : Type 0 where
+-- at e stands a plain update that writes the cell, or a commit record with an update of its number below it that writes the cell
+pub data Stamps (log : Log) (e o k : ℕ) : Type 0 where
+  updated : (ws : List Write) (w : Write) → log .entry e ≡ plain ws → List·Memᴰ w ws → w .object ≡ o → w .key ≡ k → Stamps log e o k
+  committed : (n : ℕ) (c : Condition) (w : Write) → log .entry e ≡ commit n c → SetAside log n e w → w .object ≡ o → w .key ≡ k → Stamps log e o k
+
+-- a read's version is 0, or one more than the offset of such an entry
+abbrev pub Pointed : Log → Read → Type 0
+Pointed log x = (x .version ≡ 0) ⊎ ((e : ℕ) × (x .version ≡ e + 1) × Stamps log e x.object x.key)
+
+-- a commit that neither 3, 4 nor 6 stops
+pub record CommitAsked (sh : Shape) (log : Log) (n : ℕ) (items : List ℕ) : Type 0 where
   pub whole : length items ≡ itemSize * length (conditionGiven items .reads)
   pub number : (1 ≤ n) × (n < 2 ^ 32)
   pub few : length (conditionGiven items .reads) ≤ sh .layout .items
@@ -137,6 +147,10 @@ pub record CommitAllowed (sh : Shape) (log : Log) (n : ℕ) (items : List ℕ) :
   pub ascend : Ascend (conditionGiven items .reads)
   pub uncommitted : Committed log n (log .tail) → ⊥
   pub updated : (w : Write) × SetAside log n (log .tail) w
+
+pub record CommitAllowed (sh : Shape) (log : Log) (n : ℕ) (items : List ℕ) : Type 0 where
+  pub asked : CommitAsked sh log n items
+  pub pointed : (x : Read) → List·Memᴰ x (conditionGiven items .reads) → Pointed log x
 
 pub record DecisionAllowed (log : Log) (o v : ℕ) : Type 0 where
   pub below : o < log .tail

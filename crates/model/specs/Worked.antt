@@ -14,13 +14,13 @@ use Rattle.lists.specs.First.{first, firstFrom}
 use Rattle.lists.specs.Equal.{eqList}
 use Rattle.lists.specs.Sets.{all}
 use Rattle.model.specs.Objects.{theLayout, depots, everything, isObject, isCell, isMarked, hosted}
-use Rattle.model.specs.Entries.{checkpoint, Log, writesOf, closed, decided, headerObjects, numberOf, earlier}
-use Rattle.model.specs.Slot.{headersBegin, headerSize, distanceTo, writeBytes, writeAt, readBytes, readAt, savedBytes, savedAt, itemBytes, itemCount, headerOf, slotOf, decode, slot, logIn, objectsIn}
+use Rattle.model.specs.Entries.{checkpoint, Log, writesOf, stamps, astray, closed, decided, headerObjects, numberOf, earlier}
+use Rattle.model.specs.Slot.{headersBegin, headerSize, itemsBegin, distanceTo, writeBytes, writeAt, readBytes, readAt, savedBytes, savedAt, itemBytes, itemCount, headerOf, slotOf, decode, slot, logIn, objectsIn}
 use Rattle.model.specs.Headers.{BackPointer, nothing, at as entryAt, past, formatAt, backsAt, dueFormat, dueBacks}
 use Rattle.model.specs.Rules.{okEntry, lowest, lowestBad, okWrite, okWrites, okRead, okReads, okSaved, narrow, goodAt, repeats}
 use Rattle.model.specs.Table.{Cell, cellSize, cellAt, cellBytes, cellsOf, tableWith, apply, savedOf, cellOf, lookup, inOrder, store}
 use Rattle.model.specs.Play.{play, commitsOver, step}
-use Rattle.model.specs.Answers.{Answer, done, refused, badFrame}
+use Rattle.model.specs.Answers.{Answer, done, refused, firstPlace, badFrame}
 use Rattle.model.specs.Reading.{check}
 use Rattle.model.specs.Append.{Replica, Request, update, commits, decides, saves, entryOf, ownTests, append}
 use Rattle.model.specs.Replica.{Left, unopened, openFresh, playCall, readCell, sameContent, audit}
@@ -87,6 +87,8 @@ pub data Row : Type 0 where
   spoilt : List Request → ℕ → List ℕ → ℕ → Option ℕ → Row
   -- an offset, an earlier offset or none, and the distance between them as it is stored
   apart : ℕ → Option ℕ → ℕ → Row
+  -- a number of slots, the appends, a commit's number and reads, and what the commit is answered and told
+  asks : ℕ → List Request → ℕ → List ℕ → ℕ → Option ℕ → Row
 
 -- 0 for done, else the number of a refusal
 abbrev pub code : {A : Type 0} → Answer A → ℕ
@@ -164,6 +166,10 @@ rowHolds (takes qs r table o k codes) =
 rowHolds (reads p h f bs) = eqb (formatAt h 0) f && sameBacks (backsAt (theLayout .pointers) p h 0) bs
 rowHolds (due p qs f bs) = eqb (dueFormat p qs) f && sameBacks (dueBacks (theLayout .pointers) p qs) bs
 rowHolds (apart p q d) = eqb (distanceTo p q) d
+rowHolds (asks n qs number rs a i) =
+    let l = logBy n qs in
+    let x = append depots (l .bytes) (l .tail) (commits number rs) .newTail in
+    eqb (code x) a && sameOffset (tells x) i
 rowHolds (spoilt qs i bs a o) =
     let l = over (logBy 6 qs) i bs in
     let x = check depots (inLog depots l) in
@@ -206,7 +212,7 @@ rows =
     ∷ []
 
 pub worked : all rowHolds rows ≡ true
-unfolding rowHolds beAt bytesOf splice values joined first firstFrom eqList writesOf closed decided headerObjects earlier writeBytes writeAt readBytes readAt savedBytes savedAt itemBytes itemCount headerOf slotOf decode slot logIn okEntry lowest lowestBad cellAt cellBytes cellsOf tableWith apply savedOf play commitsOver entryOf ownTests append openFresh playCall audit outcomes report grown isObject isCell isMarked hosted okWrite okWrites okRead okReads okSaved narrow goodAt lookup inOrder store step badFrame objectsIn repeats
+unfolding rowHolds beAt bytesOf splice values joined first firstFrom eqList writesOf stamps astray closed decided headerObjects earlier writeBytes writeAt readBytes readAt savedBytes savedAt itemBytes itemCount headerOf slotOf decode slot logIn okEntry lowest lowestBad cellAt cellBytes cellsOf tableWith apply savedOf play commitsOver entryOf firstPlace ownTests append openFresh playCall audit outcomes report grown isObject isCell isMarked hosted okWrite okWrites okRead okReads okSaved narrow goodAt lookup inOrder store step badFrame objectsIn repeats
 worked = refl
 
 -- ---- a table in cell order
@@ -244,6 +250,16 @@ only q = entryAt q ∷ nothing ∷ nothing ∷ nothing ∷ []
 -- where the first header of the entry at p begins
 abbrev headerIn : ℕ → ℕ
 headerIn p = theLayout .slotSize * p + headersBegin
+
+-- ---- versions in read sets
+
+-- the bench log's first four entries
+abbrev bench4 : ℕ → List Request
+bench4 v = take 4 (bench v)
+
+-- the last byte of the version of the first read at p
+abbrev pub versionByte : ℕ → ℕ
+versionByte p = theLayout .slotSize * p + itemsBegin theLayout + 15
 
 abbrev pub later : List Row
 later =
@@ -310,8 +326,36 @@ later =
     ∷ apart 70000 (some 4464) 0
     ∷ apart 65535 (some 0) 65535
     ∷ apart 65536 (some 0) 0
+    -- versions: 0, a plain update's, a commit record's whose update wrote the cell, and the same record where its number aborts
+    ∷ asks 6 (bench4 1) 10 (read 2 7 0) 0 none
+    ∷ asks 6 (bench4 1) 10 (read 2 7 1) 0 none
+    ∷ asks 6 (bench4 1) 10 (read 2 7 4) 0 none
+    ∷ asks 6 (bench4 0) 10 (read 2 7 4) 0 none
+    -- a numbered update, of the commit's own number and of another; a decision record; a checkpoint
+    ∷ asks 6 (bench4 1) 10 (read 2 7 2) 16 (some 0)
+    ∷ asks 6 (bench4 1) 10 (read 2 7 3) 16 (some 0)
+    ∷ asks 6 (bench4 1 ++ (decides 3 1 ∷ [])) 10 (read 2 7 5) 16 (some 0)
+    ∷ asks 6 (update 0 (put 2 7 4) ∷ saves (at 2 1 1) (tableOf (plainCell 2 7 ∷ [])) 2 ∷ update 9 (put 2 7 1) ∷ []) 9 (read 2 7 2) 16 (some 0)
+    -- another key, another object
+    ∷ asks 6 (bench4 1) 10 (read 2 8 1) 16 (some 0)
+    ∷ asks 6 (bench4 1) 10 (read 2 8 4) 16 (some 0)
+    ∷ asks 6 (bench4 1) 10 (read 5 7 1) 16 (some 0)
+    -- a remove, and the first and the last of two updates of one number
+    ∷ asks 6 (update 0 (put 2 1 1 ++ remove 2 7) ∷ update 9 (put 2 8 1) ∷ update 9 (put 2 9 1) ∷ commits 9 [] ∷ update 10 (put 2 7 1) ∷ []) 10
+    (read 2 7 1 ++ read 2 8 4 ++ read 2 9 4) 0 none
+    -- the first of the reads that are astray is told
+    ∷ asks 6 (bench4 1) 10 (read 2 7 1 ++ read 2 8 3) 16 (some 1)
+    ∷ asks 6 (bench4 1) 10 (read 2 7 2 ++ read 2 8 3) 16 (some 0)
+    -- 3, 4 and 6 come before 16, and 9 after it
+    ∷ asks 6 (bench4 1) 10 (read 2 7 5) 3 none
+    ∷ asks 6 (bench4 1) 9 (read 2 7 2) 4 none
+    ∷ asks 6 (bench4 1) 11 (read 2 7 2) 6 none
+    ∷ asks 4 (bench4 1) 10 (read 2 7 2) 16 (some 0)
+    ∷ asks 4 (bench4 1) 10 (read 2 7 1) 9 none
+    -- an entry whose read is astray is good: entry 3 of the bench log with version 2
+    ∷ spoilt (bench 1) (versionByte 3) (2 ∷ []) 0 none
     ∷ []
 
 pub later-worked : all rowHolds later ≡ true
-unfolding rowHolds beAt bytesOf splice values joined first firstFrom eqList writesOf closed decided headerObjects earlier writeBytes writeAt readBytes readAt savedBytes savedAt itemBytes itemCount headerOf slotOf decode slot logIn okEntry lowest lowestBad cellAt cellBytes cellsOf tableWith apply savedOf play commitsOver entryOf ownTests append openFresh playCall readCell audit outcomes report grown isObject isCell isMarked hosted okWrite okWrites okRead okReads okSaved narrow goodAt lookup inOrder store step badFrame objectsIn repeats backsAt check
+unfolding rowHolds beAt bytesOf splice values joined first firstFrom eqList writesOf stamps astray closed decided headerObjects earlier writeBytes writeAt readBytes readAt savedBytes savedAt itemBytes itemCount headerOf slotOf decode slot logIn okEntry lowest lowestBad cellAt cellBytes cellsOf tableWith apply savedOf play commitsOver entryOf firstPlace ownTests append openFresh playCall readCell audit outcomes report grown isObject isCell isMarked hosted okWrite okWrites okRead okReads okSaved narrow goodAt lookup inOrder store step badFrame objectsIn repeats backsAt check
 later-worked = refl
