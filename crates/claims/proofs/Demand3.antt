@@ -56,7 +56,7 @@ module _ (sh : Shape) (whole : Log) (r : Carried) (good : Good sh whole r) where
       (ap not (good .inv .ordered)) in
       rw (b, m, c) (ap done (good .inv .reads o k m))
 
-  read-back : (o k : ℕ) (held : Option Held) → shown sh r o k ≡ done held → run whole (r .replica .position) .cells o k ≡ held
+  pub read-back : (o k : ℕ) (held : Option Held) → shown sh r o k ≡ done held → run whole (r .replica .position) .cells o k ≡ held
   unfolding readCell
   read-back o k held e =
       let t = told (badRecord (r .replica) (r .table)) (mem o (hosts sh r) && isCell sh o k) (lookup (cellsOf (r .table) (r .replica .count)) o k) held e in

@@ -6,6 +6,7 @@ use Rattle.model.specs.Objects.{depots}
 use Rattle.model.specs.Slot.{okShape}
 use Rattle.model.specs.Claims.{Demand1, Demand2, Demand3, AuditsExactly, NeverWaits, OpensAt, OpensWherever}
 use Rattle.model.specs.HeaderClaims.{HeaderRead, TellsWhere, PastIsBad}
+use Rattle.model.specs.ReadClaims.{TellsAstray, AstrayNone, ShownPasses}
 use Rattle.claims.specs.Order.{SameCalls, SameAudits, LeavesInOrder}
 use Rattle.claims.proofs.Demand1.{demand1}
 use Rattle.claims.proofs.Demand2.{demand2}
@@ -15,6 +16,7 @@ use Rattle.claims.proofs.NeverWaits.{never-waits}
 use Rattle.claims.proofs.Opened.{opens-at, opens-wherever}
 use Rattle.claims.proofs.Order.{same-calls, same-audits, leaves-in-order}
 use Rattle.claims.proofs.Headers.{header-reads, tells-where, past-is-bad}
+use Rattle.claims.proofs.Astray.{tells-astray, astray-none, shown-passes}
 
 good-shape : okShape depots ≡ true
 good-shape = refl
@@ -57,3 +59,12 @@ tells-where-depots = tells-where depots good-shape
 
 pub past-is-bad-depots : PastIsBad depots
 past-is-bad-depots = past-is-bad depots good-shape
+
+pub tells-astray-depots : TellsAstray depots
+tells-astray-depots = tells-astray depots good-shape
+
+pub astray-none-depots : AstrayNone depots
+astray-none-depots = astray-none depots good-shape
+
+pub shown-passes-depots : ShownPasses depots
+shown-passes-depots = shown-passes depots good-shape

@@ -40,10 +40,10 @@ data Turn (sh : Shape) (l : Lent) (q : Request) : Type 0 where
   grew : Grew sh l q → Turn sh l q
 
 -- the log grew from l to m
-record Longer (sh : Shape) (l m : Lent) : Type 0 where
-  tails : l .tail ≤ m .tail
-  size : length (m .bytes) ≡ length (l .bytes)
-  agrees : Agree (inLog sh m) (inLog sh l) (l .tail)
+pub record Longer (sh : Shape) (l m : Lent) : Type 0 where
+  pub tails : l .tail ≤ m .tail
+  pub size : length (m .bytes) ≡ length (l .bytes)
+  pub agrees : Agree (inLog sh m) (inLog sh l) (l .tail)
 
 not-longer : (sh : Shape) (l : Lent) → Longer sh l l
 not-longer sh l = record { tails = omega arith; size = refl; agrees = λ o h. refl }
@@ -80,13 +80,13 @@ module _ (sh : Shape) (shape : okShape sh ≡ true) where
       go (kept e s) = subst (λ x. Longer sh l x) (sym s) (not-longer sh l)
       go (grew g) = record { tails = omega (arith, g .longer); size = g .size; agrees = g .below }
 
-  grown-longer : (l : Lent) (qs : List Request) → Longer sh l (grown sh l qs)
+  pub grown-longer : (l : Lent) (qs : List Request) → Longer sh l (grown sh l qs)
   unfolding grown
   grown-longer l [] = not-longer sh l
   grown-longer l (q ∷ qs) = even-longer sh l (after sh l q) (grown sh (after sh l q) qs) (after-longer l q) (grown-longer (after sh l q) qs)
 
   -- the log after the first n appends, and the whole
-  first-longer : (l : Lent) (n : ℕ) (qs : List Request) → Longer sh (grown sh l (take n qs)) (grown sh l qs)
+  pub first-longer : (l : Lent) (n : ℕ) (qs : List Request) → Longer sh (grown sh l (take n qs)) (grown sh l qs)
   unfolding grown
   first-longer l zero qs = grown-longer l qs
   first-longer l (suc n) [] = not-longer sh l

@@ -28,6 +28,7 @@ pub mod Histories
 pub mod AuditExactly
 pub mod Replicas
 pub mod Demand3
+pub mod Astray
 pub mod Across
 pub mod Outcomes
 pub mod Demand1

@@ -1,15 +1,18 @@
 -- The run over the entries of a log, as it is fed their requests: its count is the offset, the writes set aside are those of
--- the scan, it depends on the entries below alone, and a cell holds now what it held when the count was its version.
+-- the scan, it depends on the entries below alone, a cell holds now what it held when the count was its version, and that version is 0 or
+-- comes from an entry that stamps the cell.
 use Prim.Native.Nat.{ℕ, zero, suc, _+_}
-use mathlib.Core.Path.{_≡_, refl, ap, sym, _∙_}
-use mathlib.Core.Bool.{Bool, true, false, cond, _&&_}
+use mathlib.Core.Path.{_≡_, refl, ap, sym, _∙_, subst}
+use mathlib.Core.Logic.{_⊎_, inl, inr}
+use mathlib.Core.Bool.{Bool, true, false, cond, _&&_, _||_}
 use mathlib.Core.List.{List, [], _∷_, _++_, append-nil}
 use mathlib.Core.Option.{Option, none, some}
 use native.Mathlib.Omega.{arith}
 use native.Mathlib.Numerals.{add-one}
 use borrow.Author.Tests.{eqb-true, eqb-false, eq-eqb, ne-eqb}
 use lib.Dec.{eqb}
-use Rattle.model.specs.Entries.{Write, Held, plain, numbered, Effect, writes, aside, tries, inert, effect, Log, asideUnder, writesOf, commitAt, ifSome}
+use Rattle.lists.specs.Sets.{any}
+use Rattle.model.specs.Entries.{Write, Held, plain, numbered, Effect, writes, aside, tries, inert, effect, Log, contentOf, asideUnder, writesOf, ofCell, stampedBy, stamps, commitAt, ifSome}
 use Rattle.model.specs.Table.{Holds, versionIn}
 use Rattle.model.specs.Append.{Request, update, commits, decides, saves, writesGiven, entryOf}
 use Rattle.model.specs.Run.{Run, start, hasVersion, current, written, madeAll, setAside, accept}
@@ -107,47 +110,64 @@ run-next log before q p e = accept-step before _ (run log p) q ∙ ap (λ (n : �
 
 -- ---- a cell's version tells what it holds
 
--- y is x, or has the version v
-data Kept (v : ℕ) (x y : Option Held) : Type 0 where
-  kept : y ≡ x → Kept v x y
-  made : versionIn y ≡ v → Kept v x y
+-- y is x, or has the version v, and then the cell was written
+data Kept (v : ℕ) (wrote : Bool) (x y : Option Held) : Type 0 where
+  kept : y ≡ x → Kept v wrote x y
+  made : versionIn y ≡ v → wrote ≡ true → Kept v wrote x y
 
-made-kept : (v : ℕ) (ws : List Write) (cells : Holds) (o k : ℕ) → Kept v (cells o k) (madeAll v ws cells o k)
+made-kept : (v : ℕ) (ws : List Write) (cells : Holds) (o k : ℕ) → Kept v (any (ofCell o k) ws) (cells o k) (madeAll v ws cells o k)
 made-kept v [] cells o k = kept refl
-made-kept v (w ∷ ws) cells o k = go (made-kept v ws (written v w cells) o k)
+made-kept v (w ∷ ws) cells o k = go (ofCell o k w) (made-kept v ws (written v w cells) o k)
   where
-    one : (b : Bool) (h : Held) → h .version ≡ v → Kept v (cells o k) (cond b (some h) (cells o k))
-    one true h e = made e
-    one false h e = kept refl
+    held : Held
+    held = record { version = v; content = contentOf w }
 
-    both : (x y : Option Held) → Kept v (cells o k) x → y ≡ x → Kept v (cells o k) y
-    both x y (kept d) e = kept (e ∙ d)
-    both x y (made d) e = made (ap versionIn e ∙ d)
+    go : (b : Bool) → Kept v (any (ofCell o k) ws) (cond b (some held) (cells o k)) (madeAll v ws (written v w cells) o k)
+        → Kept v (b || any (ofCell o k) ws) (cells o k) (madeAll v ws (written v w cells) o k)
+    go true (kept e) = made (ap versionIn e) refl
+    go true (made e i) = made e refl
+    go false (kept e) = kept e
+    go false (made e i) = made e i
 
-    go : Kept v (written v w cells o k) (madeAll v ws (written v w cells) o k) → Kept v (cells o k) (madeAll v ws (written v w cells) o k)
-    go (kept e) = both (written v w cells o k) (madeAll v ws (written v w cells) o k) (one (eqb w.object o && eqb w.key k) _ refl) e
-    go (made e) = made e
-
-step-kept : (v : ℕ) (s : Run) (e : Effect) (o k : ℕ) → Kept v (s .cells o k) (cellsAfter v s e o k)
-step-kept v s (writes ws) o k = made-kept v ws (s .cells) o k
-step-kept v s (aside n ws) o k = kept refl
-step-kept v s (tries n c) o k = go (current (s .cells) (c .reads))
+step-kept : (log : Log) (p : ℕ) (e : Effect) (o k : ℕ) → Kept (p + 1) (any (ofCell o k) (stampedBy log p e)) (run log p .cells o k) (cellsAfter (p + 1) (run log p) e o k)
+step-kept log p (writes ws) o k = made-kept (p + 1) ws (run log p .cells) o k
+step-kept log p (aside n ws) o k = kept refl
+step-kept log p (tries n c) o k = go (current (run log p .cells) (c .reads))
   where
-    go : (b : Bool) → Kept v (s .cells o k) (cond b (madeAll v (s .aside n) (s .cells)) (s .cells) o k)
-    go true = made-kept v (s .aside n) (s .cells) o k
+    wrote : List Write → Type 0
+    wrote ws = Kept (p + 1) (any (ofCell o k) ws) (run log p .cells o k) (madeAll (p + 1) (run log p .aside n) (run log p .cells) o k)
+
+    go : (b : Bool) → Kept (p + 1) (any (ofCell o k) (writesOf log n p)) (run log p .cells o k) (cond b (madeAll (p + 1) (run log p .aside n) (run log p .cells)) (run log p .cells) o k)
+    go true = subst wrote (aside-run log n p) (made-kept (p + 1) (run log p .aside n) (run log p .cells) o k)
     go false = kept refl
-step-kept v s inert o k = kept refl
+step-kept log p inert o k = kept refl
 
 settled : (log : Log) (p o k : ℕ) → run log p .cells o k ≡ run log (versionIn (run log p .cells o k)) .cells o k
 unfolding run
 settled log zero o k = refl
-settled log (suc p) o k = go (settled log p o k) (step-kept (p + 1) (run log p) (effect (log .entry p)) o k)
+settled log (suc p) o k = go (settled log p o k) (step-kept log p (effect (log .entry p)) o k)
   where
     go : run log p .cells o k ≡ run log (versionIn (run log p .cells o k)) .cells o k
-        → Kept (p + 1) (run log p .cells o k) (run log (suc p) .cells o k)
+        → Kept (p + 1) (any (ofCell o k) (stampedBy log p (effect (log .entry p)))) (run log p .cells o k) (run log (suc p) .cells o k)
         → run log (suc p) .cells o k ≡ run log (versionIn (run log (suc p) .cells o k)) .cells o k
     go ih (kept e) = e ∙ ih ∙ ap (λ x. run log (versionIn x) .cells o k) (sym e)
-    go ih (made e) = ap (λ v. run log v .cells o k) (sym (e ∙ add-one p))
+    go ih (made e i) = ap (λ v. run log v .cells o k) (sym (e ∙ add-one p))
 
 pub same-version : (log : Log) (p q o k : ℕ) → versionIn (run log p .cells o k) ≡ versionIn (run log q .cells o k) → run log p .cells o k ≡ run log q .cells o k
 same-version log p q o k e = settled log p o k ∙ ap (λ v. run log v .cells o k) e ∙ sym (settled log q o k)
+
+-- ---- a cell's version is 0, or one more than the offset of an entry that stamps the cell
+
+abbrev pub From : Log → ℕ → ℕ → Option Held → Type 0
+From log o k x = (versionIn x ≡ 0) ⊎ ((e : ℕ) × (versionIn x ≡ e + 1) × (stamps log e o k ≡ true))
+
+pub from-entry : (log : Log) (p o k : ℕ) → From log o k (run log p .cells o k)
+unfolding run stamps
+from-entry log zero o k = inl refl
+from-entry log (suc p) o k = go (from-entry log p o k) (step-kept log p (effect (log .entry p)) o k)
+  where
+    go : From log o k (run log p .cells o k)
+        → Kept (p + 1) (any (ofCell o k) (stampedBy log p (effect (log .entry p)))) (run log p .cells o k) (run log (suc p) .cells o k)
+        → From log o k (run log (suc p) .cells o k)
+    go ih (kept e) = subst (From log o k) (sym e) ih
+    go ih (made e i) = inr (p, e, i)

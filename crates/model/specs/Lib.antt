@@ -14,6 +14,7 @@ pub mod Histories
 pub mod Terms
 pub mod Claims
 pub mod HeaderClaims
+pub mod ReadClaims
 pub mod Report
 pub mod Worked
 pub mod Literal

@@ -1,0 +1,176 @@
+-- Versions in read sets: 16 is answered exactly where it should be and tells the first read that is astray, since it is the first test that
+-- does not pass; an accepted commit has none; and what a replica shows never is, since the run has a version from an entry that stamps the cell.
+use Prim.Native.Nat.{ℕ, _+_, _≤_}
+use mathlib.Core.Path.{_≡_, refl, ap, sym, _∙_, subst}
+use mathlib.Core.Logic.{_⊎_, inl, inr}
+use mathlib.Core.Bool.{Bool, true, false}
+use mathlib.Core.List.{List, [], _∷_}
+use mathlib.Core.Option.{Option, none, some}
+use native.Mathlib.Omega.{arith}
+use lib.Dec.{leb}
+use Rattle.lists.specs.Tests.{clash}
+use Rattle.lists.specs.Sets.{isEmpty}
+use Rattle.model.specs.Objects.{Layout, Shape}
+use Rattle.model.specs.Entries.{Read, Held, Log, ifSome, astray, closed, writesOf, stamps}
+use Rattle.model.specs.Slot.{logIn, okShape}
+use Rattle.model.specs.Table.{versionIn}
+use Rattle.model.specs.Rules.{lowestBad}
+use Rattle.model.specs.Answers.{Refusal, Answer, done, refused, refuse, refuseAt, firstPlace, firstOf, slots, badFrame}
+use Rattle.model.specs.Append.{Request, commits, conditionGiven, ownTests, appendRefusal, appendGiven, append}
+use Rattle.model.specs.Histories.{Lent, inLog, isRefused, appendTo, grown, empty, History, wholeLog, stood, Carried, plays}
+use Rattle.model.specs.ReadClaims.{FirstAstray, TellsAstray, AstrayNone, ShownPasses, readOf}
+use Rattle.model.specs.Terms.{Pointed}
+use Rattle.laws.proofs.Refusals.{not-none, good-below, below-good}
+use Rattle.laws.proofs.Agree.{Agree, stamps-agree}
+use Rattle.laws.proofs.Places.{First, place-first, first-place}
+use Rattle.claims.proofs.Terms.{frame-words, words-frame}
+use Rattle.claims.proofs.Stamps.{stamps-words, pointed-words, words-pointed, pointed-on}
+use Rattle.claims.proofs.Accepts.{badCommit, asked-words, words-asked, accepts-exactly}
+use Rattle.claims.proofs.Runs.{run, From, from-entry}
+use Rattle.claims.proofs.Histories.{Longer, grown-longer, first-longer}
+use Rattle.claims.proofs.Demand3.{read-back, replica-good}
+
+-- ---- 16 among the tests of a commit
+
+abbrev telling : ℕ → Refusal
+telling i = record { number = 16; told = some i }
+
+-- the tests of a commit, from what each finds
+abbrev tests : Bool → Option ℕ → Bool → Bool → Bool → Option ℕ → Bool → Option Refusal
+tests frame bad given old none-there found full =
+    firstOf (refuse 1 frame ∷ refuseAt 2 bad ∷ refuse 3 given ∷ refuse 4 old ∷ refuse 6 none-there ∷ refuseAt 16 found ∷ refuse 9 full ∷ [])
+
+abbrev numberIn : Option Refusal → ℕ
+numberIn x = ifSome x 0 (λ r. r .number)
+
+abbrev toldIn : Option Refusal → Option ℕ
+toldIn x = ifSome x none (λ r. r .told)
+
+-- what was found where the answer is 16
+record Found (frame : Bool) (bad : Option ℕ) (given old none-there : Bool) (found : Option ℕ) (i : ℕ) : Type 0 where
+  framed : frame ≡ false
+  good : bad ≡ none
+  asked : given ≡ false
+  still-open : old ≡ false
+  updated : none-there ≡ false
+  astray-at : found ≡ some i
+
+sixteen : (frame : Bool) (bad : Option ℕ) (given old none-there : Bool) (found : Option ℕ) (full : Bool) (i : ℕ)
+    → tests frame bad given old none-there found full ≡ some (telling i) → Found frame bad given old none-there found i
+sixteen true b g o n f l i e = let z : _≡_ {A = ℕ} 1 16 = ap numberIn e in absurd (omega arith)
+sixteen false (some p) g o n f l i e = let z : _≡_ {A = ℕ} 2 16 = ap numberIn e in absurd (omega arith)
+sixteen false none true o n f l i e = let z : _≡_ {A = ℕ} 3 16 = ap numberIn e in absurd (omega arith)
+sixteen false none false true n f l i e = let z : _≡_ {A = ℕ} 4 16 = ap numberIn e in absurd (omega arith)
+sixteen false none false false true f l i e = let z : _≡_ {A = ℕ} 6 16 = ap numberIn e in absurd (omega arith)
+sixteen false none false false false none true i e = let z : _≡_ {A = ℕ} 9 16 = ap numberIn e in absurd (omega arith)
+sixteen false none false false false none false i e = not-none (telling i) (sym e)
+sixteen false none false false false (some j) l i e =
+    record { framed = refl; good = refl; asked = refl; still-open = refl; updated = refl; astray-at = ap toldIn e }
+
+sixteen-so : (frame : Bool) (bad : Option ℕ) (given old none-there : Bool) (found : Option ℕ) (full : Bool) (i : ℕ)
+    → Found frame bad given old none-there found i → tests frame bad given old none-there found full ≡ some (telling i)
+sixteen-so frame bad given old none-there found full i f = rw (f .framed, f .good, f .asked, f .still-open, f .updated, f .astray-at)
+
+-- ---- the append's answer is its refusal's
+
+abbrev refusalIn : {A : Type 0} → Answer A → Option Refusal
+refusalIn (done a) = none
+refusalIn (refused r) = some r
+
+refusal-of : (ly : Layout) (bytes : List ℕ) (tail : ℕ) (s : List ℕ) (x : Option Refusal) → refusalIn (appendGiven ly bytes tail s x .newTail) ≡ x
+refusal-of ly bytes tail s none = refl
+refusal-of ly bytes tail s (some r) = refl
+
+module _ (sh : Shape) (l : Lent) (q : Request) where
+  answer-is : refusalIn (appendTo sh l q .newTail) ≡ appendRefusal sh (inLog sh l) q
+  unfolding append
+  answer-is = refusal-of sh.layout (l .bytes) (inLog sh l .tail) _ (appendRefusal sh (inLog sh l) q)
+
+  refused-so : (r : Refusal) → appendTo sh l q .newTail ≡ refused r → appendRefusal sh (inLog sh l) q ≡ some r
+  refused-so r e = sym answer-is ∙ ap refusalIn e
+
+  so-refused : (r : Refusal) → appendRefusal sh (inLog sh l) q ≡ some r → appendTo sh l q .newTail ≡ refused r
+  so-refused r e = go (appendTo sh l q .newTail) (answer-is ∙ e)
+    where
+      go : (a : Answer ℕ) → refusalIn a ≡ some r → a ≡ refused r
+      go (done t) i = not-none r (sym i)
+      go (refused x) i = ap (λ (y : Option Refusal). ifSome y (refused r) (λ z. refused z)) i
+
+module _ (sh : Shape) (shape : okShape sh ≡ true) (l : Lent) (n : ℕ) (items : List ℕ) (i : ℕ) where
+  log : Log
+  log = inLog sh l
+
+  reads : List Read
+  reads = conditionGiven items .reads
+
+  first-astray : appendTo sh l (commits n items) .newTail ≡ refused (telling i) → FirstAstray sh l n items i
+  unfolding log reads ownTests
+  first-astray e =
+      let f = sixteen (badFrame sh.layout log) (lowestBad sh log) (badCommit sh log n items) (closed log n (log .tail)) (isEmpty (writesOf log n (log .tail)))
+      (firstPlace (astray log) reads) (leb (slots sh.layout log) (log .tail)) i (refused-so sh l (commits n items) (telling i) e) in
+      let a : First (astray log) reads i = place-first (astray log) reads i (f .astray-at) in
+      record {
+        framed = frame-words sh l (f .framed);
+        good = good-below sh log (f .good);
+        asked = asked-words sh log n items (f .asked) (f .still-open) (f .updated);
+        before = a .before;
+        read = a .here;
+        rest = a .rest;
+        reads = a .parts;
+        place = a .place;
+        others = λ x m. pointed-words log x (a .fails x m);
+        astray = λ p. clash (astray log (a .here)) (a .passes) (words-pointed log (a .here) p);
+      }
+
+  astray-first : FirstAstray sh l n items i → appendTo sh l (commits n items) .newTail ≡ refused (telling i)
+  unfolding log reads ownTests
+  astray-first a =
+      let w = words-asked sh log n items (a .asked) in
+      let hit : astray log (a .read) ≡ true = bad (astray log (a .read)) refl in
+      let found : firstPlace (astray log) reads ≡ some i =
+      ap (firstPlace (astray log)) (a .reads) ∙ first-place (astray log) (a .before) (a .read) (a .rest) (λ x m. words-pointed log x (a .others x m)) hit ∙ ap some (a .place) in
+      so-refused sh l (commits n items) (telling i) (sixteen-so _ _ _ _ _ _ (leb (slots sh.layout log) (log .tail)) i (record {
+        framed = words-frame sh shape l (a .framed);
+        good = below-good sh log (a .good);
+        asked = w .0;
+        still-open = w .1;
+        updated = w .2;
+        astray-at = found;
+      }))
+    where
+      bad : (b : Bool) → astray log (a .read) ≡ b → b ≡ true
+      bad true e = refl
+      bad false e = absurd (a .astray (pointed-words log (a .read) e))
+
+pub tells-astray : (sh : Shape) → okShape sh ≡ true → TellsAstray sh
+tells-astray sh shape l n items i = (first-astray sh shape l n items i, astray-first sh shape l n items i)
+
+-- ---- an accepted commit has none
+
+pub astray-none : (sh : Shape) → okShape sh ≡ true → AstrayNone sh
+unfolding logIn grown
+astray-none sh shape l n items taken later x m =
+    let q : Request = commits n items in
+    let a = accepts-exactly sh shape l q .0 taken .allowed in
+    let up : Longer sh l (grown sh l (q ∷ later)) = grown-longer sh shape l (q ∷ later) in
+    pointed-on (inLog sh l) (inLog sh (grown sh l (q ∷ later))) (l .tail) x (up .agrees) (a .asked .each x m .1) (a .pointed x m)
+
+-- ---- what a replica shows has none
+
+pub shown-passes : (sh : Shape) → okShape sh ≡ true → ShownPasses sh
+unfolding logIn
+shown-passes sh shape h scratch passed opening r e ps o k held s m low later =
+    go (subst (From whole o k) (read-back sh whole (plays sh h r ps) (replica-good sh shape h scratch passed opening r e ps) o k held s) (from-entry whole (plays sh h r ps .replica .position) o k))
+  where
+    whole : Log
+    whole = inLog sh (wholeLog sh h)
+
+    then : Log
+    then = inLog sh (grown sh (stood sh h m) later)
+
+    agrees : Agree then whole (stood sh h m .tail)
+    agrees p l = grown-longer sh shape (stood sh h m) later .agrees p l ∙ sym (first-longer sh shape (empty (h .bytes)) m (h .requests) .agrees p l)
+
+    go : From whole o k held → Pointed then (readOf o k held)
+    go (inl z) = inl z
+    go (inr (p, v, t)) = inr (p, v, stamps-words then p o k (stamps-agree then whole p (stood sh h m .tail) o k (omega arith) agrees ∙ t))
