@@ -1,8 +1,8 @@
 -- Versions in read sets: 16 is answered exactly where it should be and tells the first read that is astray, since it is the first test that
 -- does not pass; an accepted commit has none; and what a replica shows never is, since the run has a version from an entry that stamps the cell.
-use Prim.Native.Nat.{ℕ, _+_, _≤_}
+use Prim.Native.Nat.{ℕ, _≤_}
 use mathlib.Core.Path.{_≡_, refl, ap, sym, _∙_, subst}
-use mathlib.Core.Logic.{_⊎_, inl, inr}
+use mathlib.Core.Logic.{inl, inr}
 use mathlib.Core.Bool.{Bool, true, false}
 use mathlib.Core.List.{List, [], _∷_}
 use mathlib.Core.Option.{Option, none, some}
@@ -11,13 +11,13 @@ use lib.Dec.{leb}
 use Rattle.lists.specs.Tests.{clash}
 use Rattle.lists.specs.Sets.{isEmpty}
 use Rattle.model.specs.Objects.{Layout, Shape}
-use Rattle.model.specs.Entries.{Read, Held, Log, ifSome, astray, closed, writesOf, stamps}
+use Rattle.model.specs.Entries.{Read, Held, Log, ifSome, astray, closed, writesOf}
 use Rattle.model.specs.Slot.{logIn, okShape}
 use Rattle.model.specs.Table.{versionIn}
 use Rattle.model.specs.Rules.{lowestBad}
 use Rattle.model.specs.Answers.{Refusal, Answer, done, refused, refuse, refuseAt, firstPlace, firstOf, slots, badFrame}
 use Rattle.model.specs.Append.{Request, commits, conditionGiven, ownTests, appendRefusal, appendGiven, append}
-use Rattle.model.specs.Histories.{Lent, inLog, isRefused, appendTo, grown, empty, History, wholeLog, stood, Carried, plays}
+use Rattle.model.specs.Histories.{Lent, inLog, appendTo, grown, empty, History, wholeLog, stood, Carried, plays}
 use Rattle.model.specs.ReadClaims.{FirstAstray, TellsAstray, AstrayNone, ShownPasses, readOf}
 use Rattle.model.specs.Terms.{Pointed}
 use Rattle.laws.proofs.Refusals.{not-none, good-below, below-good}
@@ -26,7 +26,7 @@ use Rattle.laws.proofs.Places.{First, place-first, first-place}
 use Rattle.claims.proofs.Terms.{frame-words, words-frame}
 use Rattle.claims.proofs.Stamps.{stamps-words, pointed-words, words-pointed, pointed-on}
 use Rattle.claims.proofs.Accepts.{badCommit, asked-words, words-asked, accepts-exactly}
-use Rattle.claims.proofs.Runs.{run, From, from-entry}
+use Rattle.claims.proofs.Runs.{From, from-entry}
 use Rattle.claims.proofs.Histories.{Longer, grown-longer, first-longer}
 use Rattle.claims.proofs.Demand3.{read-back, replica-good}
 
@@ -97,14 +97,14 @@ module _ (sh : Shape) (l : Lent) (q : Request) where
       go (refused x) i = ap (λ (y : Option Refusal). ifSome y (refused r) (λ z. refused z)) i
 
 module _ (sh : Shape) (shape : okShape sh ≡ true) (l : Lent) (n : ℕ) (items : List ℕ) (i : ℕ) where
-  log : Log
+  abbrev log : Log
   log = inLog sh l
 
-  reads : List Read
+  abbrev reads : List Read
   reads = conditionGiven items .reads
 
   first-astray : appendTo sh l (commits n items) .newTail ≡ refused (telling i) → FirstAstray sh l n items i
-  unfolding log reads ownTests
+  unfolding ownTests
   first-astray e =
       let f = sixteen (badFrame sh.layout log) (lowestBad sh log) (badCommit sh log n items) (closed log n (log .tail)) (isEmpty (writesOf log n (log .tail)))
       (firstPlace (astray log) reads) (leb (slots sh.layout log) (log .tail)) i (refused-so sh l (commits n items) (telling i) e) in
@@ -123,7 +123,7 @@ module _ (sh : Shape) (shape : okShape sh ≡ true) (l : Lent) (n : ℕ) (items 
       }
 
   astray-first : FirstAstray sh l n items i → appendTo sh l (commits n items) .newTail ≡ refused (telling i)
-  unfolding log reads ownTests
+  unfolding ownTests
   astray-first a =
       let w = words-asked sh log n items (a .asked) in
       let hit : astray log (a .read) ≡ true = bad (astray log (a .read)) refl in
@@ -157,20 +157,28 @@ astray-none sh shape l n items taken later x m =
 
 -- ---- what a replica shows has none
 
+not-above : (log : Log) (o k p : ℕ) (x : Option Held) → From log o k p x → versionIn x ≤ p
+not-above log o k p x (inl z) = omega arith
+not-above log o k p x (inr (q, l, v, t)) = omega arith
+
+module _ (sh : Shape) (shape : okShape sh ≡ true) (h : History) (m : ℕ) (later : List Request) where
+  abbrev whole : Log
+  whole = inLog sh (wholeLog sh h)
+
+  abbrev then : Log
+  then = inLog sh (grown sh (stood sh h m) later)
+
+  agrees : Agree then whole (stood sh h m .tail)
+  agrees p l = grown-longer sh shape (stood sh h m) later .agrees p l ∙ sym (first-longer sh shape (empty (h .bytes)) m (h .requests) .agrees p l)
+
+  from-pointed : (o k p : ℕ) (x : Option Held) → versionIn x ≤ stood sh h m .tail → From (inLog sh (wholeLog sh h)) o k p x → Pointed (inLog sh (grown sh (stood sh h m) later)) (readOf o k x)
+  from-pointed o k p x low (inl z) = inl z
+  from-pointed o k p x low (inr (q, l, v, t)) = inr (q, v, stamps-words then q o k (stamps-agree then whole q (stood sh h m .tail) o k (omega arith) agrees ∙ t))
+
 pub shown-passes : (sh : Shape) → okShape sh ≡ true → ShownPasses sh
-unfolding logIn
-shown-passes sh shape h scratch passed opening r e ps o k held s m low later =
-    go (subst (From whole o k) (read-back sh whole (plays sh h r ps) (replica-good sh shape h scratch passed opening r e ps) o k held s) (from-entry whole (plays sh h r ps .replica .position) o k))
-  where
-    whole : Log
-    whole = inLog sh (wholeLog sh h)
-
-    then : Log
-    then = inLog sh (grown sh (stood sh h m) later)
-
-    agrees : Agree then whole (stood sh h m .tail)
-    agrees p l = grown-longer sh shape (stood sh h m) later .agrees p l ∙ sym (first-longer sh shape (empty (h .bytes)) m (h .requests) .agrees p l)
-
-    go : From whole o k held → Pointed then (readOf o k held)
-    go (inl z) = inl z
-    go (inr (p, v, t)) = inr (p, v, stamps-words then p o k (stamps-agree then whole p (stood sh h m .tail) o k (omega arith) agrees ∙ t))
+shown-passes sh shape h scratch passed opening r e ps o k held s =
+    let x : Carried = plays sh h r ps in
+    let p : ℕ = x .replica .position in
+    let log : Log = inLog sh (wholeLog sh h) in
+    let from : From log o k p held = subst (From log o k p) (read-back sh log x (replica-good sh shape h scratch passed opening r e ps) o k held s) (from-entry log p o k) in
+    record { past = not-above log o k p held from; pointed = λ m low later. from-pointed sh shape h m later o k p held low from }

@@ -1,10 +1,10 @@
 -- The run over the entries of a log, as it is fed their requests: its count is the offset, the writes set aside are those of
 -- the scan, it depends on the entries below alone, a cell holds now what it held when the count was its version, and that version is 0 or
 -- comes from an entry that stamps the cell.
-use Prim.Native.Nat.{ℕ, zero, suc, _+_}
+use Prim.Native.Nat.{ℕ, zero, suc, _+_, _<_}
 use mathlib.Core.Path.{_≡_, refl, ap, sym, _∙_, subst}
 use mathlib.Core.Logic.{_⊎_, inl, inr}
-use mathlib.Core.Bool.{Bool, true, false, cond, _&&_, _||_}
+use mathlib.Core.Bool.{Bool, true, false, cond, _||_}
 use mathlib.Core.List.{List, [], _∷_, _++_, append-nil}
 use mathlib.Core.Option.{Option, none, some}
 use native.Mathlib.Omega.{arith}
@@ -156,18 +156,22 @@ settled log (suc p) o k = go (settled log p o k) (step-kept log p (effect (log .
 pub same-version : (log : Log) (p q o k : ℕ) → versionIn (run log p .cells o k) ≡ versionIn (run log q .cells o k) → run log p .cells o k ≡ run log q .cells o k
 same-version log p q o k e = settled log p o k ∙ ap (λ v. run log v .cells o k) e ∙ sym (settled log q o k)
 
--- ---- a cell's version is 0, or one more than the offset of an entry that stamps the cell
+-- ---- a cell's version is 0, or one more than the offset of an entry below that stamps the cell
 
-abbrev pub From : Log → ℕ → ℕ → Option Held → Type 0
-From log o k x = (versionIn x ≡ 0) ⊎ ((e : ℕ) × (versionIn x ≡ e + 1) × (stamps log e o k ≡ true))
+abbrev pub From : Log → ℕ → ℕ → ℕ → Option Held → Type 0
+From log o k p x = (versionIn x ≡ 0) ⊎ ((e : ℕ) × (e < p) × (versionIn x ≡ e + 1) × (stamps log e o k ≡ true))
 
-pub from-entry : (log : Log) (p o k : ℕ) → From log o k (run log p .cells o k)
+pub from-entry : (log : Log) (p o k : ℕ) → From log o k p (run log p .cells o k)
 unfolding run stamps
 from-entry log zero o k = inl refl
 from-entry log (suc p) o k = go (from-entry log p o k) (step-kept log p (effect (log .entry p)) o k)
   where
-    go : From log o k (run log p .cells o k)
+    higher : From log o k p (run log p .cells o k) → From log o k (suc p) (run log p .cells o k)
+    higher (inl z) = inl z
+    higher (inr (e, l, v, s)) = inr (e, omega arith, v, s)
+
+    go : From log o k p (run log p .cells o k)
         → Kept (p + 1) (any (ofCell o k) (stampedBy log p (effect (log .entry p)))) (run log p .cells o k) (run log (suc p) .cells o k)
-        → From log o k (run log (suc p) .cells o k)
-    go ih (kept e) = subst (From log o k) (sym e) ih
-    go ih (made e i) = inr (p, e, i)
+        → From log o k (suc p) (run log (suc p) .cells o k)
+    go ih (kept e) = subst (From log o k (suc p)) (sym e) (higher ih)
+    go ih (made e i) = inr (p, omega arith, e, i)

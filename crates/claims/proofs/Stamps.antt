@@ -1,15 +1,14 @@
 -- The entries to which versions point, in words: an entry stamps a cell exactly where the words say so, and a read is astray exactly where it
 -- points to no such entry. By the kind of the entry, and the words for the writes of a number.
-use Prim.Native.Nat.{ℕ, _+_, _≤_}
-use mathlib.Core.Path.{_≡_, refl, ap, sym, _∙_}
-use mathlib.Core.Logic.{_⊎_, inl, inr}
+use Prim.Native.Nat.{ℕ, _≤_}
+use mathlib.Core.Path.{_≡_, refl, ap, _∙_}
+use mathlib.Core.Logic.{inl, inr}
 use mathlib.Core.Bool.{Bool, true, false, not, _&&_}
-use mathlib.Core.List.{List, List·Memᴰ, List·Memᴰ·not-nil}
+use mathlib.Core.List.{List·Memᴰ, List·Memᴰ·not-nil}
 use native.Mathlib.Omega.{arith}
 use borrow.Author.Tests.{eqb-true, eqb-false, eq-eqb, not-false}
 use lib.Dec.{eqb}
 use Rattle.lists.specs.Tests.{and-l, and-r, and-false, both}
-use Rattle.lists.specs.Sets.{any}
 use Rattle.lists.specs.Members.{any-in, in-any}
 use Rattle.model.specs.Entries.{Write, Read, Entry, plain, numbered, commit, decision, checkpoint, blank, effect, Log, writesOf, ofCell, stampedBy, stamps, pointedAt, astray}
 use Rattle.model.specs.Terms.{Stamps, updated, committed, Pointed}

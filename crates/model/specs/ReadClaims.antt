@@ -40,11 +40,14 @@ AstrayNone sh = (l : Lent) (n : ℕ) (items : List ℕ) → Accepted sh l (commi
 abbrev pub readOf : ℕ → ℕ → Option Held → Read
 readOf o k held = record { object = o; key = k; version = versionIn held }
 
--- What a replica of demand 3 shows with a version is 0 or points to an entry that writes its cell: in the log as it stood at any time when
--- its tail was not below that version, and after any further appends to it.
+-- What a replica shows of a cell has no version above its position, and 0 or one that points to an entry that writes the cell: in the log as
+-- it stood at any time when its tail was not below that version, and after any further appends to it.
+pub record ShownVersion (sh : Shape) (h : History) (r : Carried) (o k : ℕ) (held : Option Held) : Type 0 where
+  pub past : versionIn held ≤ r .replica .position
+  pub pointed : (m : ℕ) → versionIn held ≤ stood sh h m .tail → (later : List Request) → Pointed (inLog sh (grown sh (stood sh h m) later)) (readOf o k held)
+
+-- So it is of every replica of demand 3.
 abbrev pub ShownPasses : Shape → Type 0
 ShownPasses sh = (h : History) (scratch : List ℕ) → Passed sh h scratch
     → (opening : Opening) (r : Carried) → opened sh h opening ≡ some r
-    → (ps : List Play) (o k : ℕ) (held : Option Held) → shown sh (plays sh h r ps) o k ≡ done held
-    → (m : ℕ) → versionIn held ≤ stood sh h m .tail
-    → (later : List Request) → Pointed (inLog sh (grown sh (stood sh h m) later)) (readOf o k held)
+    → (ps : List Play) (o k : ℕ) (held : Option Held) → shown sh (plays sh h r ps) o k ≡ done held → ShownVersion sh h (plays sh h r ps) o k held
