@@ -65,10 +65,15 @@ unfolding beAt bytesOf splice values joined first firstFrom picks eqList writesO
 full-told = refl
 
 -- versions in a read set, on a log with an open number 8: 3, 4 and 6 come before 16; 9 comes after it
-abbrev sets : ℕ → Lent
-sets slots = grown small (empty (replicate (small .layout .slotSize * slots) 7)) (update 0 (put 2 7 4) ∷ update 9 (put 2 7 1) ∷ commits 9 [] ∷ update 8 (put 2 7 1) ∷ [])
 
--- eleven reads: of ten cells that were never written, and of one by a commit record's version
+-- twelve writes, the last of them of (2, 7)
+abbrev twelve : List ℕ
+twelve = joined (λ (k : ℕ). put 2 k 1) (0 ∷ 1 ∷ 2 ∷ 3 ∷ 4 ∷ 5 ∷ 6 ∷ []) ++ joined (λ (k : ℕ). put 3 k 1) (0 ∷ 1 ∷ 2 ∷ []) ++ put 5 1 1 ++ put 2 7 4
+
+abbrev sets : ℕ → Lent
+sets slots = grown small (empty (replicate (small .layout .slotSize * slots) 7)) (update 0 twelve ∷ update 9 (put 2 7 1) ∷ commits 9 [] ∷ update 8 (put 2 7 1) ∷ [])
+
+-- eleven reads: ten with version 0, and one with a commit record's version
 abbrev eleven : List ℕ
 eleven = joined (λ (k : ℕ). read 1 k 0) (0 ∷ 1 ∷ 2 ∷ []) ++ joined (λ (k : ℕ). read 2 k 0) (0 ∷ 1 ∷ 2 ∷ 3 ∷ 4 ∷ 5 ∷ 6 ∷ []) ++ read 2 7 3
 
@@ -77,8 +82,8 @@ tellsOf l q = tells (append small (l .bytes) (l .tail) q .newTail)
 
 pub astray-told : (let l = sets 5 in
     eqList (codes l (commits 9 (read 2 7 5) ∷ commits 9 (read 2 7 2) ∷ commits 7 (read 2 7 2) ∷ commits 8 (read 2 7 2) ∷ commits 8 (read 2 7 4) ∷ commits 8 (read 2 7 3)
-    ∷ commits 8 (eleven ++ read 2 8 0) ∷ []))
-    (3 ∷ 4 ∷ 6 ∷ 16 ∷ 16 ∷ 0 ∷ 0 ∷ [])
+    ∷ commits 8 (read 2 7 1) ∷ commits 8 (eleven ++ read 2 8 0) ∷ []))
+    (3 ∷ 4 ∷ 6 ∷ 16 ∷ 16 ∷ 0 ∷ 0 ∷ 0 ∷ [])
     && sameOffset (tellsOf l (commits 8 (eleven ++ read 2 8 1))) (some 11)
     && sameOffset (tellsOf l (commits 8 (read 1 0 4 ++ read 2 7 2))) (some 0)) ≡ true
 unfolding beAt bytesOf splice values joined first firstFrom picks eqList writesOf stamps astray closed decided headerObjects earlier writeBytes writeAt readBytes readAt savedBytes savedAt itemBytes itemCount headerOf slotOf decode slot logIn okEntry lowest lowestBad cellAt cellBytes cellsOf tableWith apply savedOf play commitsOver owed entryCall itemList infoIn entryOf firstPlace ownTests append openFresh openAt playCall readCell audit accept runAt grown feed isObject isCell isMarked hosted okWrite okWrites okRead okReads okSaved narrow goodAt lookup inOrder store step badFrame objectsIn repeats
