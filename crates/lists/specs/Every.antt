@@ -32,6 +32,14 @@ module _ {A : Type 0} (f : A → Bool) (g : ℕ → A) where
           let same : i ≡ k = omega (arith, ltb-false i k q) in
           clash (f (g i)) p (ap (λ (m : ℕ). f (g m)) same ∙ e)
 
+  -- where all pass, each does
+  pub every-value : {n : ℕ} → all f (values g 0 n) ≡ true → (k : ℕ) → k < n → f (g k) ≡ true
+  every-value {n} h k l = go (f (g k)) refl
+    where
+      go : (b : Bool) → f (g k) ≡ b → b ≡ true
+      go true e = refl
+      go false e = clash (all f (values g 0 n)) h (some-fails 0 n k (omega arith) (omega arith) e)
+
   -- the loop found an index that fails
   pub every-not : {n i : ℕ} → Seeking failing n i → i < n → failing i ≡ true → all f (values g 0 n) ≡ false
   every-not {n} {i} s l e = some-fails 0 n i (omega arith) (omega arith) (not-true (f (g i)) e)
