@@ -19,6 +19,7 @@ pub enum Refusal {
     NoRoom,
     NoRoomAt(Offset),
     Behind,
+    Astray(u64),
 }
 
 // Done, or refused.
@@ -47,6 +48,7 @@ pub fn number_of(r: Refusal) -> u32
         Refusal::NoRoom => 13,
         Refusal::NoRoomAt(_) => 13,
         Refusal::Behind => 14,
+        Refusal::Astray(_) => 16,
     }
 }
 
@@ -75,5 +77,6 @@ pub fn told_of(r: Refusal) -> Told
         Refusal::NoRoom => Told::Nothing,
         Refusal::NoRoomAt(o) => Told::Number(o.0),
         Refusal::Behind => Told::Nothing,
+        Refusal::Astray(k) => Told::Number(k),
     }
 }

@@ -14,10 +14,14 @@ returns-11 c = sym (ap (λ x. refusalIn x .told) (c .before .r2 .given .1))
 returns-14 : tie.Need-returns-14
 returns-14 c = sym (ap (λ x. refusalIn x .told) (c .before .r3 .given .1))
 
+returns-16 : tie.Need-returns-16
+returns-16 c = sym (ap (λ x. refusalIn x .told) (c .before .r4 .given .1))
+
 pub told-of-spec : {M : Type 1} → statement M
 told-of-spec =
     tie.close
     (tie.spec
+    (λ c. search needs)
     (λ c. search needs)
     (λ c. search needs)
     (λ c. search needs)
@@ -47,4 +51,5 @@ told-of-spec =
     (λ c. search needs)
     (λ c. search needs)
     returns-14
-    (λ c. search needs))
+    (λ c. search needs)
+    returns-16)
