@@ -1,6 +1,7 @@
 //! Stored vectors of the appends: a log, the requests made on it one after the other, and what must come of each.
 //! The format stands at the head of `src/vectors.rs`.
 
+pub mod astray;
 pub mod checkpoints;
 pub mod fields;
 pub mod growing;
@@ -59,6 +60,7 @@ pub fn named() -> Vec<Case> {
     cases.extend(fields::cases());
     cases.extend(checkpoints::cases());
     cases.extend(lent::cases());
+    cases.extend(astray::cases());
     cases
 }
 
@@ -119,6 +121,14 @@ pub fn bad_entry(at: u64) -> Answer<usize> {
     Answer::Refused {
         number: crate::answer::BAD_ENTRY,
         told: Some(at),
+    }
+}
+
+/// Refusal 16 with the read's place.
+pub fn astray(place: u64) -> Answer<usize> {
+    Answer::Refused {
+        number: crate::answer::ASTRAY,
+        told: Some(place),
     }
 }
 

@@ -118,6 +118,7 @@ pub fn good() -> Vec<Case> {
         whole("four objects in one transaction", &four_objects()),
         whole("false decision and checkpoint", &false_records()),
         whole("the largest numbers", &largest()),
+        whole("an astray read", &bench_with(2)),
     ]
 }
 
@@ -244,7 +245,7 @@ fn random_case(seed: u64) -> Case {
     let appends = slots + random.below(4) as usize;
     let mix = Mix {
         disorder: 0,
-        ..Mix::rough()
+        ..Mix::rough().before()
     };
     let history = History::made(seed, slots, appends, mix);
     let Writer { mut log, tail, .. } = history.writer;

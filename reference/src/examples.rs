@@ -28,6 +28,7 @@ pub fn all() -> Vec<Example> {
     let mut examples = vec![
         example("bench", log_of(&bench())),
         example("bench-stale-read", log_of(&bench_with(0))),
+        example("bench-astray-read", log_of(&bench_with(2))),
         example("empty", Vec::new()),
         example("removed", log_of(&removed())),
         example("transactions", log_of(&transactions())),
@@ -133,7 +134,7 @@ fn longest() -> Vec<u8> {
     let slots = LONGEST_INPUT / SLOT;
     let mix = Mix {
         keys: 12,
-        ..Mix::true_records()
+        ..Mix::true_records().before()
     };
     let mut history = History::new(256, slots, mix);
     while history.writer.tail < slots {

@@ -1,13 +1,17 @@
-//! Random histories from a seed: few keys, several open transactions, stale and fresh reads, true and false
+//! Random histories from a seed: few keys, several open transactions, fresh, stale and astray reads, true and false
 //! decisions and checkpoints, and now and then a broken request. The same seed makes the same history.
+
+use std::collections::BTreeMap;
 
 use crate::answer::Answer;
 use crate::append::{Request, Writer};
 use crate::objects::{ids, object, set_of};
 use crate::replica::Record;
 use crate::run::Run;
-use crate::sample::{commit, decision, put, read, remove, rows_of, table_of, update};
-use crate::slot::{Read, Write, ABORT, COMMIT, SLOT};
+use crate::sample::{
+    append_before, commit, decision, put, read, remove, rows_of, table_of, update,
+};
+use crate::slot::{writes_in, Read, Write, ABORT, COMMIT, SLOT};
 use crate::table::Row;
 
 /// Splitmix64.
@@ -87,6 +91,10 @@ pub struct Mix {
     /// Chances in percent: a read has an old version, a decision or checkpoint is false, a checkpoint's table is out of order, a
     /// request is broken.
     pub stale: u64,
+    /// Of the old versions, those that may be any, so that most of them are astray, in percent; an entry gave the cell the others.
+    pub astray: u64,
+    /// The log is one written before, with astray reads (6.12).
+    pub before: bool,
     pub false_decisions: u64,
     pub false_checkpoints: u64,
     pub disorder: u64,
@@ -102,6 +110,8 @@ impl Mix {
             open: 4,
             stride: 1,
             stale: 15,
+            astray: 30,
+            before: false,
             false_decisions: 0,
             false_checkpoints: 0,
             disorder: 0,
@@ -113,11 +123,21 @@ impl Mix {
     pub fn rough() -> Mix {
         Mix {
             stale: 25,
+            astray: 40,
             false_decisions: 10,
             false_checkpoints: 10,
             disorder: 5,
             broken: 12,
             ..Mix::true_records()
+        }
+    }
+
+    /// On a log written before: every old version may be any, and no read is turned down for it.
+    pub fn before(self) -> Mix {
+        Mix {
+            astray: 100,
+            before: true,
+            ..self
         }
     }
 
@@ -144,6 +164,10 @@ pub struct History {
     /// How many transaction numbers were begun.
     numbers: u32,
     undecided: Vec<u64>,
+    /// The cells that a number's updates write.
+    aside: BTreeMap<u32, Vec<(u32, u32)>>,
+    /// The versions that entries gave a cell, or would have if they had committed.
+    given: BTreeMap<(u32, u32), Vec<u64>>,
 }
 
 impl History {
@@ -157,6 +181,8 @@ impl History {
             open: Vec::new(),
             numbers: 0,
             undecided: Vec::new(),
+            aside: BTreeMap::new(),
+            given: BTreeMap::new(),
         }
     }
 
@@ -181,7 +207,10 @@ impl History {
     /// Appends a request and keeps the books.
     pub fn append(&mut self, request: Request) -> Answer<usize> {
         let at = self.writer.tail as u64;
-        let answer = self.writer.append(&request);
+        let answer = match self.mix.before {
+            true => append_before(&mut self.writer, &request),
+            false => self.writer.append(&request),
+        };
         self.run.feed(&request, !answer.is_done());
         if answer.is_done() {
             self.note(&request, at);
@@ -192,19 +221,35 @@ impl History {
 
     fn note(&mut self, request: &Request, at: u64) {
         match request {
-            Request::Update { number, .. } if *number != 0 && !self.open.contains(number) => {
-                self.open.push(*number);
+            Request::Update { number, items } => {
+                let cells = writes_in(items).map(|write| (write.object, write.key));
+                if *number == 0 {
+                    self.give(cells.collect(), at);
+                    return;
+                }
+                self.aside.entry(*number).or_default().extend(cells);
+                if !self.open.contains(number) {
+                    self.open.push(*number);
+                }
             }
             Request::Commit { number, .. } => {
                 self.open.retain(|open| open != number);
                 self.undecided.push(at);
+                let cells = self.aside.remove(number).unwrap_or_default();
+                self.give(cells, at);
             }
             Request::Decision { offset, .. } => self.undecided.retain(|commit| commit != offset),
             _ => {}
         }
     }
 
-    /// A request that breaks no slot rule; it may be refused with 4 to 9 and 13.
+    fn give(&mut self, cells: Vec<(u32, u32)>, at: u64) {
+        for cell in cells {
+            self.given.entry(cell).or_default().push(at + 1);
+        }
+    }
+
+    /// A request that breaks no slot rule; it may be refused with 4 to 9, 13 and 16.
     pub fn request(&mut self) -> Request {
         match self.random.below(100) {
             0..=24 => update(0, &self.writes()),
@@ -290,12 +335,26 @@ impl History {
             .collect()
     }
 
-    /// The cell's version, or any that a read may have.
+    /// The cell's version, one that it was given before, or any that a read may have.
     fn version(&mut self, object: u32, key: u32) -> u64 {
-        if self.random.percent(self.mix.stale) {
-            self.random.below(self.writer.tail as u64 + 1)
-        } else {
-            self.run.cell(object, key).version()
+        let shown = self.run.cell(object, key).version();
+        if !self.random.percent(self.mix.stale) {
+            return shown;
+        }
+        let tail = self.writer.tail as u64;
+        if self.mix.astray == 100 {
+            return self.random.below(tail + 1);
+        }
+        if !self.random.percent(self.mix.astray) {
+            let given = self.given.get(&(object, key));
+            let given = given.cloned().unwrap_or_default();
+            return self.random.pick(&given).unwrap_or(0);
+        }
+        match self.random.below(4) {
+            // the entry's offset, or the one after it
+            0 => shown.saturating_sub(1),
+            1 => tail.min(shown + 1),
+            _ => self.random.below(tail + 1),
         }
     }
 

@@ -22,6 +22,11 @@ pub fn version_at(at: usize) -> u64 {
     at as u64 + 1
 }
 
+/// The offset to which a version points that is not 0, and the one place that goes back (1.8).
+pub fn pointed_at(version: u64) -> usize {
+    version as usize - 1
+}
+
 /// 10 where no tail is given (7.9).
 pub fn replica_good(record: &Record, table: &[u8]) -> Result<(), Refusal> {
     refuse_if(

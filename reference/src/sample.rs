@@ -1,10 +1,11 @@
 //! Requests and small logs in few words, for tests, stored vectors and random histories.
 
+use crate::answer::{Answer, ASTRAY};
 use crate::append::{Request, Writer};
 use crate::objects::has;
 use crate::replica::{open_fresh, play, Record};
 use crate::run::Run;
-use crate::slot::{Read, Write, PUT, REMOVE, SLOT};
+use crate::slot::{Read, Write, ITEM, ITEMS_AT, PUT, REMOVE, SLOT};
 use crate::table::{Cell, Row, CELL};
 
 pub fn put(object: u32, key: u32, value: u32) -> Write {
@@ -100,12 +101,31 @@ pub fn rows_of(run: &Run, hosted: u8) -> Vec<Row> {
         .collect()
 }
 
-/// A log of these appends and the run of them; a refused append stops it.
+/// Appends as in a log that was written before 16 was told, or by others (6.12): with astray reads too. Of a commit record
+/// only the items come from its reads.
+pub fn append_before(writer: &mut Writer, request: &Request) -> Answer<usize> {
+    let answer = writer.append(request);
+    let Request::Commit { number, reads } = request else {
+        return answer;
+    };
+    if answer.number() != ASTRAY {
+        return answer;
+    }
+    let answer = writer.append(&commit(*number, &[]));
+    if let Answer::Done(after) = answer {
+        let slot = slot_mut(&mut writer.log, after - 1);
+        slot[3] = (reads.len() / ITEM) as u8;
+        slot[ITEMS_AT..ITEMS_AT + reads.len()].copy_from_slice(reads);
+    }
+    answer
+}
+
+/// A log of these appends, astray reads among them (6.12), and the run of them; a refused append stops it.
 pub fn grown(slots: usize, requests: &[Request]) -> (Writer, Run) {
     let mut writer = Writer::new(slots);
     let mut run = Run::new();
     for request in requests {
-        let answer = writer.append(request);
+        let answer = append_before(&mut writer, request);
         assert!(answer.is_done(), "{request:?} is refused: {answer:?}");
         run.feed(request, false);
     }

@@ -31,7 +31,7 @@ fn named_cases_answer_as_made_for() {
 #[test]
 fn orders_by_hand() {
     let update: &[u32] = &[3, 5, 3, 4, 3, 5, 3, 5, 3, 5, 3, 4, 3, 5, 3, 0];
-    let commit: &[u32] = &[3, 6, 3, 4, 3, 0];
+    let commit: &[u32] = &[3, 6, 3, 4, 3, 16, 3, 6, 3, 4, 3, 0];
     let decision: &[u32] = &[3, 8, 3, 7, 3, 0];
     let checkpoint: &[u32] = &[10, 3, 10, 14, 10, 3, 10, 13, 10, 3, 10, 14, 10, 3, 10, 0];
     let cases = orders::cases();
@@ -47,6 +47,7 @@ fn orders_by_hand() {
                     (2 | 6, _) => refused(2, Some(1)),
                     (4, 0) => refused(9, None),
                     (_, 0) => Done(tail as usize + 1),
+                    (_, 16) => refused(16, Some(0)),
                     (_, number) => refused(*number, None),
                 })
                 .collect();
@@ -137,6 +138,9 @@ struct Judge {
     closed: BTreeSet<u32>,
     commits: BTreeSet<u64>,
     decided: BTreeSet<u64>,
+    /// The cells of each number's updates; those that get a version, with it.
+    aside: BTreeMap<u32, BTreeSet<[u64; 2]>>,
+    stamped: BTreeSet<([u64; 2], u64)>,
 }
 
 fn get(bytes: &[u8], at: usize, length: usize) -> u64 {
@@ -166,7 +170,10 @@ impl Judge {
             let objects = (0..told.headers as u32)
                 .map(|place| header(log, tail, at, place).done().unwrap().object);
             match told.kind {
-                Kind::Update => judge.updated(told.number, objects.collect()),
+                Kind::Update => {
+                    judge.updated(told.number, objects.collect());
+                    judge.wrote(told.number, items(log, tail, at));
+                }
                 Kind::Commit => judge.committed(told.number),
                 Kind::Decision => judge.decide(get(items(log, tail, at), 0, 8)),
                 Kind::Checkpoint => {}
@@ -182,9 +189,34 @@ impl Judge {
         }
     }
 
+    /// A plain update's cells get its version, others are set aside.
+    fn wrote(&mut self, number: u32, items: &[u8]) {
+        for item in items.chunks(16) {
+            let cell = [get(item, 0, 4), get(item, 4, 4)];
+            if number == 0 {
+                self.stamped.insert((cell, self.tail + 1));
+            } else {
+                self.aside.entry(number).or_default().insert(cell);
+            }
+        }
+    }
+
     fn committed(&mut self, number: u32) {
         self.closed.insert(number);
         self.commits.insert(self.tail);
+        for cell in &self.aside[&number] {
+            self.stamped.insert((*cell, self.tail + 1));
+        }
+    }
+
+    /// The place of the first read with a version that no entry gives its cell.
+    fn astray(&self, reads: &[u8]) -> Option<u64> {
+        let good = |item: &[u8]| {
+            let (cell, version) = ([get(item, 0, 4), get(item, 4, 4)], get(item, 8, 8));
+            version == 0 || self.stamped.contains(&(cell, version))
+        };
+        let place = reads.chunks(16).position(|item| !good(item));
+        place.map(|place| place as u64)
     }
 
     fn decide(&mut self, offset: u64) {
@@ -210,7 +242,10 @@ impl Judge {
             return 9;
         }
         match request {
-            Request::Update { number, items } => self.updated(*number, written(items)),
+            Request::Update { number, items } => {
+                self.updated(*number, written(items));
+                self.wrote(*number, items);
+            }
             Request::Commit { number, .. } => self.committed(*number),
             Request::Decision { offset, .. } => self.decide(*offset),
             Request::Checkpoint { .. } => {}
@@ -265,6 +300,8 @@ impl Judge {
             4
         } else if !self.objects.contains_key(&number) {
             6
+        } else if self.astray(reads).is_some() {
+            16
         } else {
             0
         }
@@ -355,9 +392,10 @@ fn a_plain_judge_says_the_same() {
         let mut judge = Judge::of(&case.log, case.tail as usize);
         let answers = case.outcome().answers;
         for (request, answer) in case.requests.iter().zip(answers) {
-            let expected = match judge.ask(request) {
-                0 => Done(judge.tail as usize),
-                number => refused(number, None),
+            let expected = match (judge.ask(request), request) {
+                (0, _) => Done(judge.tail as usize),
+                (16, Request::Commit { reads, .. }) => refused(16, judge.astray(reads)),
+                (number, _) => refused(number, None),
             };
             assert_eq!(answer, expected, "{}: {request:?}", case.name);
         }
@@ -382,7 +420,7 @@ fn the_histories_are_as_wide_as_meant() {
     }
     for (kind, numbers) in [
         (1, vec![0, 3, 4, 5, 9]),
-        (2, vec![0, 3, 4, 6, 9]),
+        (2, vec![0, 3, 4, 6, 9, 16]),
         (3, vec![0, 3, 7, 8, 9]),
         (4, vec![0, 3, 9, 10, 14]),
     ] {

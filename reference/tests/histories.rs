@@ -7,6 +7,7 @@ use reference::objects::{has, set_of, OBJECTS};
 use reference::random::{edge, flip, junk, History, Mix, Random};
 use reference::replica::{open_at, open_fresh, play, read_cell, Record};
 use reference::run::Run;
+use reference::sample::{put, read};
 use reference::slot::{slot_at, Kind, SLOT};
 use reference::table::CELL;
 use reference::Answer;
@@ -115,11 +116,12 @@ fn replicas_of_audited_logs_show_the_run() {
         plays: 0,
     };
     for seed in 0..400 {
-        let mix = Mix {
-            broken: 10,
-            ..Mix::true_records()
+        // A third are logs written before, with astray reads.
+        let mix = match seed % 3 {
+            0 => Mix::true_records().before(),
+            _ => Mix::true_records(),
         };
-        let history = History::made(seed, 40, 50, mix);
+        let history = History::made(seed, 40, 50, Mix { broken: 10, ..mix });
         let (log, tail) = (&history.writer.log, history.writer.tail);
         let (answer, record) = audit(log, tail, &mut vec![0; 100 * CELL]);
         // A broken checkpoint may be a false one.
@@ -138,7 +140,7 @@ fn replicas_of_audited_logs_show_the_run() {
 
 #[test]
 fn histories_have_all_kinds_and_refusals() {
-    let mut numbers = [0; 15];
+    let mut numbers = [0; 17];
     let mut kinds = [0; 5];
     let mut audits = [0; 15];
     for seed in 0..300 {
@@ -158,17 +160,95 @@ fn histories_have_all_kinds_and_refusals() {
         let (answer, _) = audit(log, tail, &mut vec![0; 100 * CELL]);
         audits[answer.number() as usize] += 1;
     }
-    for number in [0, 3, 4, 5, 6, 7, 8, 9, 10, 13, 14] {
+    for number in [0, 3, 4, 5, 6, 7, 8, 9, 10, 13, 14, 16] {
         assert!(
             numbers[number] > 0,
             "no append answers {number}: {numbers:?}"
         );
     }
+    assert!(numbers[16] > 200, "{numbers:?}");
     assert!(
         kinds[0] == 0 && kinds[1..].iter().all(|&count| count > 100),
         "{kinds:?}"
     );
     assert!(audits[0] > 20 && audits[11] > 20, "{audits:?}");
+}
+
+/// Commits by what they answer: most are accepted, and a good share is turned down for an astray read, at any place. What the run
+/// shows of a cell is never astray, and where a log was written before no read is turned down.
+#[test]
+fn commits_are_accepted_and_astray() {
+    for (mix, least, most) in [
+        (Mix::true_records(), 3, 12),
+        (Mix::rough(), 6, 25),
+        (Mix::crowded(), 6, 25),
+        (
+            Mix {
+                stale: 0,
+                ..Mix::rough()
+            },
+            0,
+            0,
+        ),
+        (Mix::rough().before(), 0, 0),
+    ] {
+        let (mut all, mut done, mut astray, mut later) = (0, 0, 0, 0);
+        for seed in 0..200 {
+            let mix = Mix { broken: 0, ..mix };
+            for (request, answer) in History::made(seed, 100, 80, mix).appends {
+                if !matches!(request, Request::Commit { .. }) {
+                    continue;
+                }
+                all += 1;
+                match answer {
+                    Answer::Done(_) => done += 1,
+                    Answer::Refused { number: 16, told } => {
+                        astray += 1;
+                        later += u32::from(told > Some(0));
+                    }
+                    Answer::Refused { told, .. } => assert_eq!(told, None),
+                }
+            }
+        }
+        assert!(done > 1000 && done * 100 > all * 50, "{done} of {all}");
+        assert!(
+            (least..=most).contains(&(astray * 100 / all)),
+            "{astray} of {all}"
+        );
+        assert!(least == 0 || later * 5 > astray, "{later} of {astray}");
+    }
+}
+
+/// What a replica shows of a cell may be read in any later commit: its version is never astray.
+#[test]
+fn shown_versions_are_never_astray() {
+    let mut asked = 0;
+    for seed in 0..150 {
+        let history = History::made(seed, 30, 40, Mix::rough());
+        let (log, tail) = (&history.writer.log, history.writer.tail);
+        for position in 0..=tail {
+            let mut table = vec![0; 40 * CELL];
+            let fresh = open_fresh(0xFF).done().unwrap();
+            let (_, shown) = play(log, tail, fresh, &mut table, position as u64);
+            for object in 1..=8 {
+                let Answer::Done(cell) = read_cell(&shown, &table, object, 0) else {
+                    panic!("object {object} is hosted");
+                };
+                // A new transaction's commit, over a log with room for it.
+                let mut after = log[..tail * SLOT].to_vec();
+                after.resize((tail + 2) * SLOT, 0);
+                let number = 0xFFFF_0000;
+                let items = put(1, 0, 1).bytes();
+                let answer = append::update(&mut after, tail, number, &items);
+                assert_eq!(answer, Answer::Done(tail + 1));
+                let reads = read(object, 0, cell.version()).bytes();
+                let answer = append::commit(&mut after, tail + 1, number, &reads);
+                assert_eq!(answer, Answer::Done(tail + 2));
+                asked += u32::from(cell.version() > 0);
+            }
+        }
+    }
+    assert!(asked > 5000, "{asked}");
 }
 
 /// Every call on a log of any bytes, with numbers of any kind. Refused appends, openings and lists change nothing.

@@ -155,6 +155,16 @@ fn commit_order() {
         appends(&log, 3, &commit(0, &[]), refused(3));
         appends(&log, 3, &commit(7, &[read(2, 0, 4)]), refused(3));
         appends(&log, 3, &commit(9, &[read(9, 0, 0)]), refused(3));
+        // 16, from the order's end on: alone and in a full log, then with 6, 4 and 3 before it.
+        let astray = [read(2, 0, 2), read(2, 1, 2)];
+        appends(&log, 3, &commit(8, &astray[..1]), full);
+        appends(&log, 3, &commit(8, &astray), refused_at(16, 1));
+        appends(&log, 3, &commit(8, &astray[1..]), refused_at(16, 0));
+        appends(&log, 3, &commit(9, &astray), refused(6));
+        appends(&log, 3, &commit(7, &astray), refused(4));
+        let both = [astray[0], astray[1], read(4, 0, 4)];
+        appends(&log, 3, &commit(8, &both), refused(3));
+        frame_and_entries_first(&log, 3, 2, &commit(8, &astray));
         frame_and_entries_first(&log, 3, 2, &commit(0, &[]));
     }
 }
@@ -163,7 +173,8 @@ fn commit_order() {
 fn commit_fields() {
     let log = with_room(&[update(8, &[put(2, 0, 0)])], 1);
     let with = |reads: &[_], expected| appends(&log, 1, &commit(8, reads), expected);
-    with(&[read(2, 0, 1)], Done(2));
+    with(&[read(2, 0, 0)], Done(2));
+    with(&[read(2, 0, 1)], refused_at(16, 0));
     with(&[read(2, 0, 2)], refused(3));
     with(&[read(2, 0, u64::MAX)], refused(3));
     with(&[read(2, 500, 0)], refused(3));

@@ -88,7 +88,7 @@ fn the_stream_list_equals_a_plain_upward_scan() {
 
 #[test]
 fn far_back_pointers() {
-    let mut history = History::made(1, 70_000, 40, Mix::true_records());
+    let mut history = History::made(1, 70_000, 40, Mix::true_records().before());
     history.mix.objects = 0b1_0000;
     while history.writer.tail < 69_000 {
         history.step();

@@ -7,7 +7,7 @@ use reference::log::{check, entry, header, items, list, next, owed, scan, Reader
 use reference::replica::{open_at, open_fresh, play, play_in_place, read_cell, Record};
 use reference::report::playlog;
 use reference::sample::*;
-use reference::slot::{slot_at, Kind, ABORT, COMMIT, SLOT};
+use reference::slot::{slot_at, Kind, Read, ABORT, COMMIT, SLOT};
 use reference::table::{row, Cell, Row, CELL};
 use reference::Answer::{self, Done};
 
@@ -93,6 +93,125 @@ fn bench_log_with_read_version_0() {
     let printed =
         "offset number outcome\n3 9 abort\n4 10 commit\nobject key value version\n2 7 40 5\n";
     assert_eq!(playlog(&log), printed);
+}
+
+/// An astray read that a log has is stale and nothing else (6.12).
+#[test]
+fn bench_log_with_read_version_2() {
+    let mut log = log_of(&bench());
+    slot_mut(&mut log, 3)[71] = 2;
+    assert_eq!(log, log_of(&bench_with(2)));
+    assert_eq!(check(&log, 5), Done(()));
+    assert_eq!(playlog(&log), playlog(&log_of(&bench_with(0))));
+    let (answer, record, table) = play_fresh(&log, 2, 1);
+    assert_eq!((answer, record.position, record.count), (Done(()), 5, 1));
+    assert_eq!(table, Row::of(2, 7, Some(40), 5).bytes());
+    let mut scratch = [0; 24];
+    assert_eq!(audit(&log, 5, &mut scratch).0, Done(()));
+    assert_eq!(scratch[..], table);
+    // a true decision record on it passes, a false one does not
+    for (outcome, expected) in [(ABORT, Done(())), (COMMIT, refused_at(11, 5))] {
+        let mut requests = bench_with(2);
+        requests.push(decision(3, outcome));
+        let log = log_of(&requests);
+        assert_eq!(audit(&log, 6, &mut scratch).0, expected);
+    }
+}
+
+/// A commit of 10 over the bench log's entries 0 to 3, or others: 0 where it is accepted, else the number and the place.
+fn commits(base: &[Request], free: usize, number: u32, reads: &[Read]) -> (u32, Option<u64>) {
+    let mut log = log_of(base);
+    let tail = base.len();
+    log.resize(log.len() + free * SLOT, 0x77);
+    let before = log.clone();
+    match append::commit(&mut log, tail, number, &read_bytes(reads)) {
+        Done(after) => {
+            assert_eq!(after, tail + 1);
+            assert_eq!(items(&log, after, tail as u64), read_bytes(reads));
+            assert_eq!(check(&log, after), Done(()));
+            (0, None)
+        }
+        Answer::Refused { number, told } => {
+            assert_eq!(log, before);
+            (number, told)
+        }
+    }
+}
+
+/// The rows of 16.4.
+#[test]
+fn offsets_sent_as_versions() {
+    let four = &bench()[..4];
+    let with = |version| commits(four, 1, 10, &[read(2, 7, version)]);
+    for version in [0, 1, 4] {
+        assert_eq!(with(version), (0, None));
+    }
+    for version in [2, 3] {
+        assert_eq!(with(version), (16, Some(0)));
+    }
+    assert_eq!(with(5), (3, None));
+    assert_eq!(commits(four, 1, 10, &[read(2, 8, 1)]), (16, Some(0)));
+    let second = [read(2, 7, 1), read(2, 8, 3)];
+    assert_eq!(commits(four, 1, 10, &second), (16, Some(1)));
+    let mut decided = four.to_vec();
+    decided.push(decision(3, COMMIT));
+    assert_eq!(commits(&decided, 1, 10, &[read(2, 7, 5)]), (16, Some(0)));
+    assert_eq!(commits(&decided, 1, 10, &[read(2, 7, 4)]), (0, None));
+    let aborted = &bench_with(0)[..4];
+    assert_eq!(commits(aborted, 1, 10, &[read(2, 7, 4)]), (0, None));
+    assert_eq!(commits(four, 0, 10, &[read(2, 7, 2)]), (16, Some(0)));
+    assert_eq!(commits(four, 0, 10, &[read(2, 7, 1)]), (9, None));
+    for free in [0, 1] {
+        assert_eq!(commits(four, free, 11, &[read(2, 7, 2)]), (6, None));
+        assert_eq!(commits(four, free, 9, &[read(2, 7, 2)]), (4, None));
+    }
+}
+
+/// What may be pointed to: the first, the middle and the last update of a commit record; the last of 12 writes; a removal; the
+/// place told is the first.
+#[test]
+fn versions_point_to_what_writes_the_cell() {
+    let mut twelve: Vec<_> = (0..11).map(|key| put(2, key, 1)).collect();
+    twelve.push(remove(2, 11));
+    let base = [
+        update(0, &twelve),
+        update(5, &[put(3, 1, 1), put(3, 2, 1)]),
+        update(6, &[put(3, 4, 1)]),
+        update(5, &[remove(3, 3)]),
+        update(5, &[put(4, 1, 1)]),
+        commit(5, &[]),
+        checkpoint_of(3, 6, &[Row::of(3, 1, Some(1), 6)]),
+        update(6, &[put(8, 0, 1)]),
+    ];
+    let alone = |object, key, version| commits(&base, 1, 6, &[read(object, key, version)]);
+    for (object, key) in [(3, 1), (3, 2), (3, 3), (4, 1)] {
+        assert_eq!(alone(object, key, 6), (0, None));
+        // not to its own update, to the checkpoint, or to the plain update
+        for version in [1, 2, 4, 5, 7, 8] {
+            assert_eq!(alone(object, key, version), (16, Some(0)));
+        }
+    }
+    for key in 0..12 {
+        assert_eq!(alone(2, key, 1), (0, None));
+        assert_eq!(alone(2, key, 6), (16, Some(0)));
+    }
+    // a numbered update of its own number and of another, and cells that no entry writes
+    for (object, key) in [(3, 4), (8, 0), (2, 12), (5, 1)] {
+        assert_eq!(alone(object, key, 0), (0, None));
+        for version in 1..=8 {
+            assert_eq!(alone(object, key, version), (16, Some(0)));
+        }
+    }
+    let good: Vec<_> = (0..12).map(|key| read(2, key, 1)).collect();
+    assert_eq!(commits(&base, 1, 6, &good), (0, None));
+    for first in 0..12 {
+        for last in first..12 {
+            let mut reads = good.clone();
+            reads[first].version = 2;
+            reads[last].version = 8;
+            assert_eq!(commits(&base, 1, 6, &reads), (16, Some(first as u64)));
+        }
+    }
 }
 
 #[test]

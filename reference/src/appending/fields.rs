@@ -4,7 +4,7 @@ use crate::append::Request;
 use crate::sample::*;
 use crate::slot::{Read, Write, ABORT, COMMIT, SLOT};
 
-use super::{junk, with_junk, Asking, Case};
+use super::{astray, junk, with_junk, Asking, Case};
 
 pub fn cases() -> Vec<Case> {
     vec![
@@ -262,15 +262,16 @@ fn commit_sorting() -> Case {
     asking.refused(3, commit(8, &[read(2, 1, 0), read(2, 3, 0), read(2, 2, 0)]));
     asking.refused(3, commit(8, &[read(2, 3, 0), read(2, 1, 0), read(2, 4, 0)]));
     asking.refused(3, commit(8, &[read(1, 1, 0), read(2, 1, 0), read(1, 1, 0)]));
-    asking.done(commit(
-        8,
-        &[
+    let ascending = |version: u64| {
+        [
             read(1, 9999, 0),
             read(2, 255, 0),
-            read(2, 256, 1),
+            read(2, 256, version),
             read(3, 0, 0),
-        ],
-    ));
+        ]
+    };
+    asking.ask(commit(8, &ascending(1)), astray(2));
+    asking.done(commit(8, &ascending(0)));
     asking.case()
 }
 

@@ -13,6 +13,7 @@ pub fn cases() -> Vec<Case> {
 fn history(seed: u64) -> Case {
     let mix = Mix {
         open: 2,
+        astray: 100,
         ..Mix::rough()
     };
     let mut history = History::new(82_283 + seed, 0, mix);

@@ -5,7 +5,7 @@ use crate::sample::*;
 use crate::slot::{COMMIT, SLOT};
 use crate::table::Row;
 
-use super::{bad_entry, junk, refused, with_junk, Asking, Case};
+use super::{astray, bad_entry, junk, refused, with_junk, Asking, Case};
 
 pub fn cases() -> Vec<Case> {
     let mut cases = frames();
@@ -113,7 +113,8 @@ fn full() -> Case {
     asking.refused(9, update(11, &[put(2, 7, 1)]));
     asking.refused(9, update(12, &[put(1, 7, 1)]));
     asking.refused(9, commit(11, &[]));
-    asking.refused(9, commit(11, &[read(2, 7, 6)]));
+    asking.ask(commit(11, &[read(2, 7, 6)]), astray(0));
+    asking.refused(9, commit(11, &[read(2, 7, 5)]));
     asking.refused(9, decision(3, COMMIT));
     asking.refused(9, decision(4, COMMIT));
     asking.case()
@@ -141,7 +142,8 @@ fn one_slot() -> Case {
     asking.refused(3, commit(1, &[read(2, 7, 1)]));
     asking.refused(3, decision(0, COMMIT));
     asking.done(update(1, &[put(2, 7, 1)]));
-    asking.refused(9, commit(1, &[read(2, 7, 1)]));
+    asking.ask(commit(1, &[read(2, 7, 1)]), astray(0));
+    asking.refused(9, commit(1, &[read(2, 7, 0)]));
     asking.refused(3, commit(1, &[read(2, 7, 2)]));
     asking.refused(7, decision(0, COMMIT));
     asking.case()
@@ -168,7 +170,8 @@ fn hidden_entries() -> Case {
     asking.done(update(9, &[put(5, 1, 1)]));
     asking.refused(7, decision(3, COMMIT));
     asking.refused(3, decision(4, COMMIT));
-    asking.done(commit(9, &[read(2, 7, 4)]));
+    asking.ask(commit(9, &[read(2, 7, 4)]), astray(0));
+    asking.done(commit(9, &[read(2, 7, 1)]));
     asking.refused(9, decision(4, COMMIT));
     asking.case()
 }

@@ -1,13 +1,13 @@
 //! Each set of refusals that one append can meet at once, from none to all: the first in its order (13.5) is
 
-use crate::answer::Answer;
+use crate::answer::{Answer, ASTRAY};
 use crate::append::Request;
 use crate::replica::Record;
 use crate::sample::*;
 use crate::slot::{ABORT, COMMIT};
 use crate::table::Row;
 
-use super::{bad_entry, refused, with_junk, Asking, Case};
+use super::{astray, bad_entry, refused, with_junk, Asking, Case};
 
 /// An append's order (13.5), and how to meet any of it.
 struct Order {
@@ -69,6 +69,7 @@ fn answer(order: &Order, met: &[bool]) -> Answer<usize> {
     match met.iter().position(|met| *met) {
         None => Answer::Done(order.base.len() + 1),
         Some(1) => bad_entry(1),
+        Some(place) if order.line[place] == ASTRAY => astray(0),
         Some(place) => refused(order.line[place]),
     }
 }
@@ -114,14 +115,14 @@ fn update_order() -> Order {
 fn commit_order() -> Order {
     Order {
         name: "commit",
-        line: &[1, 2, 3, 4, 6, 9],
+        line: &[1, 2, 3, 4, 6, 16, 9],
         base: vec![
             update(7, &[put(2, 0, 0)]),
             commit(7, &[]),
             update(8, &[put(4, 0, 0), put(2, 0, 0)]),
         ],
         request: |met| {
-            let [_, _, field, closed, empty, _] = met else {
+            let [_, _, field, closed, empty, astray, _] = met else {
                 return None;
             };
             let number = match (closed, empty) {
@@ -130,7 +131,12 @@ fn commit_order() -> Order {
                 (false, true) => 9,
                 (false, false) => 8,
             };
-            Some(commit(number, &[read(2, 0, if *field { 4 } else { 3 })]))
+            // to the commit record, or to an update of number 8
+            let mut reads = vec![read(2, 0, if *astray { 3 } else { 2 })];
+            if *field {
+                reads.push(read(4, 0, 4));
+            }
+            Some(commit(number, &reads))
         },
     }
 }

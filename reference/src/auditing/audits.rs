@@ -12,7 +12,8 @@ pub fn cases() -> Vec<Case> {
     let mut cases = vec![
         empty(),
         bench_audited(),
-        bench_version_0(),
+        bench_version(0),
+        bench_version(2),
         tails(),
         true_records(),
     ];
@@ -51,9 +52,11 @@ fn bench_audited() -> Case {
     asking.case()
 }
 
-fn bench_version_0() -> Case {
-    let log = log_of(&bench_with(0));
-    let mut asking = Asking::on("bench log, read version 0, audited", log, junk(50));
+/// Version 0 is stale, 2 astray, in a log written before (16.4).
+fn bench_version(version: u64) -> Case {
+    let name = format!("bench log, read version {version}, audited");
+    let log = log_of(&bench_with(version));
+    let mut asking = Asking::on(&name, log, junk(50));
     asking.audits(5, 1);
     asking.holds(2, 7, 40, 5);
     asking.row(0, 2, 7, Some(40), 5);

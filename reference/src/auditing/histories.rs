@@ -38,7 +38,7 @@ fn grown(seed: u64) -> History {
         false_decisions: chance,
         false_checkpoints: chance,
         stale: 20,
-        ..Mix::true_records()
+        ..Mix::true_records().before()
     };
     let mut history = History::new(77_000 + seed, 16, mix);
     let entries = 10 + history.random.below(7) as usize;

@@ -45,7 +45,7 @@ fn grown(seed: u64) -> History {
         false_decisions: 15,
         false_checkpoints: 20,
         stale: 20,
-        ..Mix::true_records()
+        ..Mix::true_records().before()
     };
     let mut history = History::new(55_000 + seed, 16, mix);
     // Mostly few: the stored bytes are bounded.

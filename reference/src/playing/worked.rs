@@ -11,7 +11,8 @@ pub fn cases() -> Vec<Case> {
         bench_of(2),
         bench_of(255),
         bench_of(16),
-        bench_version_0(),
+        bench_version(0),
+        bench_version(2),
         bench_instalments(),
         put_and_remove(),
         waiting(),
@@ -41,9 +42,10 @@ fn bench_of(hosted: u8) -> Case {
     asking.case()
 }
 
-fn bench_version_0() -> Case {
-    let name = "bench log, read version 0 at entry 3";
-    let mut asking = Asking::on(name, log_of(&bench_with(0)), junk(60));
+/// Version 0 is stale, 2 astray, in a log written before (16.4).
+fn bench_version(version: u64) -> Case {
+    let name = format!("bench log, read version {version} at entry 3");
+    let mut asking = Asking::on(&name, log_of(&bench_with(version)), junk(60));
     asking.opens(2);
     asking.plays(5, 4, 1);
     asking.holds(2, 7, 43, 1);
