@@ -66,7 +66,7 @@ pub const NAMES: [(&str, &[u32]); 16] = [
     ("stream_next", &[0, 1, 2, 3]),
     ("stream_list", &[0, 1, 2, 3, 13]),
     ("append_update", &[0, 1, 2, 3, 4, 5, 9]),
-    ("append_commit", &[0, 1, 2, 3, 4, 6, 9]),
+    ("append_commit", &[0, 1, 2, 3, 4, 6, 9, 16]),
     ("append_decision", &[0, 1, 2, 3, 7, 8, 9]),
     ("append_checkpoint", &[0, 1, 2, 3, 9, 10, 13, 14]),
     ("open_fresh", &[0, 10]),

@@ -5,15 +5,15 @@ use std::collections::BTreeMap;
 use reference::append::Request;
 use reference::boundary::Said;
 use reference::header::{BackPointer, Header, FARTHEST};
-use reference::replica::Record;
+use reference::replica::{pointed_at, Record};
 use reference::rules::objects_written;
-use reference::slot::{slot_at, writes_in, Kind, MOST_HEADERS};
+use reference::slot::{reads_in, slot_at, writes_in, Kind, Read, MOST_HEADERS, SLOT};
 use reference::table::{capacity, in_order};
 
 use crate::calls::{Call, NAMES};
 
 /// Cases that must be met beside the numbers.
-pub const CASES: [&str; 25] = [
+pub const CASES: [&str; 34] = [
     "owed: an offset",
     "owed: none",
     "entry: update",
@@ -39,6 +39,15 @@ pub const CASES: [&str; 25] = [
     "read_cell: 10 for the order of the rows",
     "check: 2 at a back-pointer past offset 0",
     "check: 2 at format 1 where no entry is far",
+    "append_commit: 16 at a plain update",
+    "append_commit: 16 at an update of its number",
+    "append_commit: 16 at an update of another number",
+    "append_commit: 16 at a commit record",
+    "append_commit: 16 at a decision",
+    "append_commit: 16 at a checkpoint",
+    "append_commit: 16 past the first read",
+    "append_commit: 16 where no slot is free",
+    "append_commit: 0 with a commit record's version",
 ];
 
 /// Met on far logs alone.
@@ -46,18 +55,25 @@ pub const FAR_CASE: &str = "header: format 1";
 
 #[derive(Default)]
 pub struct Cover {
-    numbers: [[u64; 16]; 16],
+    /// By call and number; the last place is for any that no call has.
+    numbers: [[u64; 18]; 16],
     cases: BTreeMap<&'static str, u64>,
     pub calls: u64,
 }
 
 impl Cover {
     /// Takes in a call, as it was before, and its answer.
-    pub fn note(&mut self, log: &[u8], call: &Call, said: &Said) {
+    pub fn note(&mut self, log: &[u8], tail: u64, call: &Call, said: &Said) {
         self.calls += 1;
-        let number = (said.number as usize).min(15);
+        let number = (said.number as usize).min(17);
         self.numbers[call.place()][number] += 1;
-        if let Some(case) = case_of(log, call, said) {
+        let of_commit = match call {
+            Call::Append(Request::Commit { number, reads }) => {
+                commit_cases(log, tail, (*number, reads), said)
+            }
+            _ => Vec::new(),
+        };
+        for case in case_of(log, call, said).into_iter().chain(of_commit) {
             *self.cases.entry(case).or_default() += 1;
         }
     }
@@ -118,6 +134,42 @@ fn bad_header(log: &[u8], at: usize) -> Option<&'static str> {
     } else {
         None
     }
+}
+
+/// Of a commit that gets as far as its reads: what the first astray one points to, and where it is; or what it may point to.
+fn commit_cases(
+    log: &[u8],
+    tail: u64,
+    (number, reads): (u32, &[u8]),
+    said: &Said,
+) -> Vec<&'static str> {
+    let pointed_to = |read: Read| slot_at(log, pointed_at(read.version));
+    if said.number == 0 {
+        let mut versions = reads_in(reads).filter(|read| read.version > 0);
+        let commit = versions.any(|read| pointed_to(read).kind() == Some(Kind::Commit));
+        return commit.then_some(CASES[33]).into_iter().collect();
+    }
+    let Some(read) = reads_in(reads)
+        .nth(said.out[3] as usize)
+        .filter(|_| said.number == 16)
+    else {
+        return Vec::new();
+    };
+    let entry = pointed_to(read);
+    let place = match entry.kind() {
+        Some(Kind::Update) if entry.number() == 0 => 25,
+        Some(Kind::Update) if entry.number() == number => 26,
+        Some(Kind::Update) => 27,
+        Some(Kind::Commit) => 28,
+        Some(Kind::Decision) => 29,
+        _ => 30,
+    };
+    let past_first = (said.out[3] > 0).then_some(CASES[31]);
+    let full = (tail == (log.len() / SLOT) as u64).then_some(CASES[32]);
+    [Some(CASES[place]), past_first, full]
+        .into_iter()
+        .flatten()
+        .collect()
 }
 
 fn case_of(log: &[u8], call: &Call, said: &Said) -> Option<&'static str> {

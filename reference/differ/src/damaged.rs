@@ -50,7 +50,11 @@ fn grown(random: &mut Random, seed: u64) -> (Vec<u8>, Seen) {
         18 => 24 + random.below(24),
         _ => 48 + random.below(30),
     };
-    let mix = mix(random);
+    // Some are written before, with astray reads.
+    let mix = match random.percent(25) {
+        true => mix(random).before(),
+        false => mix(random),
+    };
     let appends = slots - random.below(slots / 3 + 1);
     let history = History::made(seed, slots as usize, appends as usize, mix);
     let seen = Seen {

@@ -5,9 +5,9 @@ use reference::append::Request;
 use reference::log::scan;
 use reference::objects::set_of;
 use reference::random::{put_in_order, History, Mix, Random};
-use reference::replica::Record;
-use reference::sample::{put, table_of, update};
-use reference::slot::{slot_at, MOST_SLOTS, SLOT};
+use reference::replica::{version_at, Record};
+use reference::sample::{commit, put, read, table_of, update};
+use reference::slot::{slot_at, Kind, Read, MOST_SLOTS, SLOT};
 use reference::table::{put_row, row, Row, CELL};
 
 use crate::arguments::{self, Seen};
@@ -16,6 +16,8 @@ use crate::headers::{is_bad, lists, Spot, Wrong};
 use crate::pair::{Difference, Pair};
 
 const FILLER: u32 = 8;
+/// The number of the transaction whose commit record is far from its update.
+const ASIDE: u32 = u32::MAX;
 
 /// Far distances: the nearest entry of an object just within 65,535, at it, and past it.
 pub fn far(pair: &mut Pair, seed: u64) -> Result<(), Difference> {
@@ -35,7 +37,7 @@ pub fn far(pair: &mut Pair, seed: u64) -> Result<(), Difference> {
 
 /// Early entries of objects 1 to 7, a long stretch of object 8, then random appends: their nearest entries are far.
 /// Offset 0 is the one early entry of its object, whose next is at 65,535 or 65,536. Offset 1 is the one of another, whose next
-/// two have a header of each format.
+/// two have a header of each format. One transaction has its update early and its commit record late.
 fn grown(random: &mut Random, seed: u64) -> (Vec<u8>, u64) {
     let mix = Mix {
         broken: 0,
@@ -54,6 +56,8 @@ fn grown(random: &mut Random, seed: u64) -> (Vec<u8>, u64) {
         };
         history.append(update(0, &[put(object as u32, 0, at as u32)]));
     }
+    let aside = put(others(random) as u32, 0, 7);
+    history.append(update(ASIDE, &[aside]));
     let next = 65_535 + (seed % 2) as usize;
     while history.writer.tail < 65_545 {
         let at = history.writer.tail;
@@ -65,6 +69,7 @@ fn grown(random: &mut Random, seed: u64) -> (Vec<u8>, u64) {
         };
         history.append(update(0, &[put(object as u32, 0, at as u32)]));
     }
+    history.append(commit(ASIDE, &[]));
     while history.writer.tail < slots - 4 {
         history.step();
     }
@@ -140,6 +145,50 @@ fn on_both_sides(
         let request: Request = arguments::append(random, seen, kind);
         let mut copy = log.to_vec();
         pair.call(&mut copy, tail, &mut Call::Append(request))?;
+    }
+    commits(pair, random, log, tail)
+}
+
+/// Commits that read each object's key 0 with the version of any of its early and middle entries, the commit record of the far update
+/// among them; in half of them one version is another.
+fn commits(pair: &mut Pair, random: &mut Random, log: &[u8], tail: u64) -> Result<(), Difference> {
+    let mut open = log.to_vec();
+    let mut call = Call::Append(update(ASIDE - 1, &[put(1, 1, 1)]));
+    pair.call(&mut open, tail, &mut call)?;
+    let writes = |at: &usize| {
+        let entry = slot_at(log, *at);
+        entry.number() == 0 || entry.kind() == Some(Kind::Commit)
+    };
+    let streams: Vec<Vec<usize>> = (1..=8)
+        .map(|object| {
+            scan(log, 65_546, object)
+                .into_iter()
+                .filter(writes)
+                .collect()
+        })
+        .collect();
+    for _ in 0..8 {
+        let mut reads: Vec<Read> = Vec::new();
+        for (object, offsets) in (1..).zip(&streams) {
+            let last = offsets.last().copied();
+            let at = if random.percent(50) {
+                last
+            } else {
+                random.pick(offsets)
+            };
+            reads.push(read(object, 0, at.map_or(0, version_at)));
+        }
+        if random.percent(50) {
+            let version = &mut reads[random.below(8) as usize].version;
+            *version = match random.below(3) {
+                0 => version.saturating_sub(1),
+                1 => *version + 1,
+                _ => random.below(tail + 1),
+            };
+        }
+        let mut copy = open.clone();
+        let mut call = Call::Append(commit(ASIDE - 1, &reads));
+        pair.call(&mut copy, tail + 1, &mut call)?;
     }
     Ok(())
 }

@@ -56,7 +56,7 @@ impl Pair {
             let place = self.place(log, tail, &before.1);
             return Err(Difference(format!("{place}\n{text}\n{kept}")));
         }
-        self.cover.note(log, &before.1, &said);
+        self.cover.note(log, tail, &before.1, &said);
         Ok(said)
     }
 
