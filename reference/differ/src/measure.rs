@@ -4,14 +4,17 @@ use reference::append::Request;
 use reference::boundary::{self, Said};
 use reference::objects::OBJECTS;
 use reference::replica::Record;
-use reference::sample::{put, write_bytes};
-use reference::slot::SLOT;
-use reference::table::CELL;
+use reference::sample::{played, put, read, read_bytes, write_bytes};
+use reference::slot::{Read, MOST_ITEMS, SLOT};
+use reference::table::{rows, CELL};
 
-use crate::library::{stocklog_append_update, stocklog_audit, stocklog_check, stocklog_play};
+use crate::library::{
+    stocklog_append_commit, stocklog_append_update, stocklog_audit, stocklog_check, stocklog_play,
+};
 use crate::workload::Made;
 
-pub const CALLS: [&str; 4] = ["check", "append", "play", "audit"];
+/// The append is of an update.
+pub const CALLS: [&str; 5] = ["check", "append", "commit", "play", "audit"];
 
 #[derive(Clone, Copy, Debug, PartialEq, Eq)]
 pub enum Side {
@@ -65,6 +68,7 @@ struct Lent {
     table: Vec<u8>,
     number: u32,
     items: Vec<u8>,
+    reads: Vec<u8>,
     /// The replica that is played.
     record: Record,
 }
@@ -82,8 +86,12 @@ pub fn measured(call: &str, made: Made, side: Side, time: f64) -> (f64, String) 
         table: vec![0; cells * CELL],
         number: made.number,
         items: write_bytes(&[put(2, 7, 43), put(5, 77, 1)]),
+        reads: made.reads.unwrap_or_default(),
         record,
     };
+    if call == "commit" && lent.reads.is_empty() {
+        lent.reads = honest(&mut lent, cells);
+    }
     let mut least = f64::MAX;
     let mut whole = 0.0;
     let mut said = None;
@@ -102,6 +110,27 @@ pub fn measured(call: &str, made: Made, side: Side, time: f64) -> (f64, String) 
         }
     }
     (least, shown(said, &lent))
+}
+
+/// Puts an update of the number in the last slot but one, for a commit in the last; its reads are of 12 cells, with the versions that
+/// a replica of all objects shows there.
+fn honest(lent: &mut Lent, cells: usize) -> Vec<u8> {
+    let Some(at) = lent.tail.checked_sub(2) else {
+        return Vec::new();
+    };
+    let (record, table) = played(&lent.log, at, 0xFF, cells);
+    let request = Request::Update {
+        number: lent.number,
+        items: lent.items.clone(),
+    };
+    boundary::append(&mut lent.log, at, &request);
+    let step = (record.count as usize / MOST_ITEMS).max(1);
+    let shown: Vec<Read> = rows(&table, record.count as usize)
+        .step_by(step)
+        .take(MOST_ITEMS)
+        .map(|row| read(row.object, row.key, row.version))
+        .collect();
+    read_bytes(&shown)
 }
 
 /// The answer, `out` and a sum over the bytes.
@@ -132,7 +161,7 @@ fn call_made(call: &str, side: Side, lent: &mut Lent) -> Said {
     }
 }
 
-/// The append writes the last slot anew.
+/// The appends write the last slot anew.
 fn by_reference(call: &str, lent: &mut Lent) -> Said {
     let tail = lent.tail;
     match call {
@@ -141,6 +170,13 @@ fn by_reference(call: &str, lent: &mut Lent) -> Said {
             let request = Request::Update {
                 number: lent.number,
                 items: lent.items.clone(),
+            };
+            boundary::append(&mut lent.log, tail - 1, &request)
+        }
+        "commit" => {
+            let request = Request::Commit {
+                number: lent.number,
+                reads: lent.reads.clone(),
             };
             boundary::append(&mut lent.log, tail - 1, &request)
         }
@@ -162,6 +198,10 @@ fn by_library(call: &str, lent: &mut Lent) -> Said {
             "append" => {
                 let (items, items_len) = (lent.items.as_ptr(), lent.items.len());
                 stocklog_append_update(log, log_len, tail - 1, lent.number, items, items_len, to)
+            }
+            "commit" => {
+                let (reads, reads_len) = (lent.reads.as_ptr(), lent.reads.len());
+                stocklog_append_commit(log, log_len, tail - 1, lent.number, reads, reads_len, to)
             }
             "play" => stocklog_play(
                 log,

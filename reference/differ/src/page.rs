@@ -41,12 +41,12 @@ pub fn table(rows: &[Row], columns: &[Column], limit: u64) -> String {
     text
 }
 
-/// How many times as long an append takes as a check of the same log.
-pub fn appends(rows: &[Row], columns: &[Column]) -> String {
-    let mut words = vec!["append / check, entries".to_string()];
+/// How many times as long an append, or a commit, takes as a check of the same log.
+pub fn appends(call: &str, rows: &[Row], columns: &[Column]) -> String {
+    let mut words = vec![format!("{call} / check, entries")];
     words.extend(columns.iter().map(|column| column.words.to_string()));
     let mut text = head(&words);
-    for append in rows.iter().filter(|row| row.call == "append") {
+    for append in rows.iter().filter(|row| row.call == call) {
         let mut words = vec![append.size.to_string()];
         for place in 0..columns.len() {
             let mut same = rows.iter().filter(|row| row.size == append.size);
@@ -60,10 +60,11 @@ pub fn appends(rows: &[Row], columns: &[Column]) -> String {
     text
 }
 
-/// The lines of the plot, which leaves the landing before out.
+/// The lines of the plot, which leaves the commit and the landing before out.
 pub fn lines(rows: &[Row], columns: &[Column]) -> Vec<Line> {
     let mut lines = Vec::new();
-    for (colour, call) in CALLS.into_iter().enumerate() {
+    let plotted = CALLS.into_iter().filter(|call| *call != "commit");
+    for (colour, call) in plotted.enumerate() {
         for (place, column) in columns.iter().enumerate() {
             if column.before.is_some() {
                 continue;
@@ -103,8 +104,9 @@ pub fn depots(tables: &str, before: bool, plot: Option<&str>, old: &str) -> Stri
 One call of the proved library, through its C interface, and of the second implementation (`reference/`, plain Rust with a quick\n\
 hash map for transaction numbers and arrays for all else), on the same logs in one run: processor time of the call in nanoseconds,\n\
 divided by the entries of the log. Every call checks the whole log first, so an append too costs time for each entry. The append is of\n\
-an update with a number that is new, in place of the last entry. The least of several calls is shown. Both sides gave the same\n\
-answers and left the same bytes. `tools/bench` makes this page and the plot.{before}\n\n\
+an update with a number that is new, in place of the last entry. The commit is of that number, whose one update then is the last entry\n\
+but one; it has 12 reads, spread over all cells, with the versions that a replica shows. The least of several calls is shown. Both sides\n\
+gave the same answers and left the same bytes. `tools/bench` makes this page and the plot, which leaves the commit out.{before}\n\n\
 The logs: plain updates, transactions of 1 to 4 updates with 1 to 4 reads, three in a hundred of them stale, decision records for\n\
 reads of marked objects, a checkpoint of the van or a register now and then; 6,000 patients, 8,000 orders, 500 items a depot.\n\n\
 Processor: {}.\n\n{tables}{picture}{section}",
@@ -139,6 +141,9 @@ impl Slow {
         for call in CALLS {
             let of_call = self.rows.iter().filter(|row| row.call == call);
             let places: Vec<String> = of_call.map(|row| place(row, limit)).collect();
+            if places.is_empty() {
+                continue;
+            }
             text += &format!(
                 "| {} | {} | {call} | {} |\n",
                 self.log.name,
@@ -198,7 +203,10 @@ made so. `tools/bench --worst` makes this section.\n\n\
 then all again.\n\
 - One entry: the play is of the last entry, by a replica with almost 20,000 rows; its one write is of a cell that has a row, or of one\n  \
 whose row comes before all others.\n\
-- The append is of an update with the number of the last entry, in place of it.\n\n\
+- The append is of an update with the number of the last entry, in place of it.\n\
+- 12 reads: a commit, in place of the last entry, all of whose versions are true. They point to a commit record near the end of the\n  \
+log, or to 12, whose updates write the cells at the beginning alone; between are updates of another transaction, or of the same one, 12\n  \
+writes in each. This commit is measured beside a check of the same log.\n\n\
 A place of the table has the nanoseconds of the proved library for each entry; then, how many times those on the log beside they are,\n\
 and how many times those of plain Rust on the same log. A point that takes over {limit} s is ended, and longer logs of its row are left\n\
 out. Both sides gave the same answers and left the same bytes.\n\n\

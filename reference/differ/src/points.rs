@@ -60,6 +60,8 @@ pub struct Column {
     pub side: Side,
     /// One of the logs that are made to be slow or stand beside them; without it, a log as the depots make one.
     pub log: Option<&'static str>,
+    /// The call that is measured in place of the row's.
+    pub call: Option<&'static str>,
     /// The benchmark of another landing.
     pub before: Option<String>,
 }
@@ -70,6 +72,7 @@ impl Column {
             words: "proved",
             side: Side::Library,
             log,
+            call: None,
             before: None,
         }
     }
@@ -79,6 +82,7 @@ impl Column {
             words: "plain Rust",
             side: Side::Reference,
             log,
+            call: None,
             before: None,
         }
     }
@@ -102,6 +106,7 @@ impl Column {
 
     /// Measures a point in a process of its own.
     fn point(&self, call: &str, size: usize, asked: &Asked) -> Result<Point, String> {
+        let call = self.call.unwrap_or(call);
         let mut command = Command::new(self.program()?);
         command
             .args(["--seed", &asked.seed.to_string()])
@@ -160,14 +165,15 @@ pub struct Row {
 }
 
 impl Row {
-    /// The columns on the log of the last one, which is the second implementation's, have its answer.
+    /// The columns with the call and the log of the last one, which is the second implementation's, have its answer.
     fn compared(&self, columns: &[Column]) -> Result<(), String> {
         let (Some(last), Some(Point::Took(_, due))) = (columns.last(), self.points.last()) else {
             return Ok(());
         };
         for (column, point) in columns.iter().zip(&self.points) {
             if let Point::Took(_, answer) = point {
-                if column.log == last.log && !column.agrees(answer, due) {
+                let same = column.log == last.log && column.call == last.call;
+                if same && !column.agrees(answer, due) {
                     return Err(format!(
                         "{} of {} entries, {}: the answer is {answer}, due is {due}",
                         self.call, self.size, column.words

@@ -8,7 +8,9 @@ use reference::objects::{is_marked, set_of};
 use reference::random::Random;
 use reference::replica::Record;
 use reference::run::Run;
-use reference::sample::{commit, decision, put, read, remove, rows_of, table_of, update};
+use reference::sample::{
+    append_before, commit, decision, put, read, remove, rows_of, table_of, update,
+};
 use reference::slot::{Read, Write, ABORT, COMMIT};
 
 /// How many keys of each object are in use: thousands of patients and orders, a small van.
@@ -26,8 +28,10 @@ struct Open {
 pub struct Made {
     /// All of its slots are used.
     pub log: Vec<u8>,
-    /// The number of the update with which the append is measured.
+    /// The number of the update with which the append is measured, and of the commit.
     pub number: u32,
+    /// The reads of the commit, whose number has an update below the last entry; without them, those of an honest one are made.
+    pub reads: Option<Vec<u8>>,
     /// The record and the table with which the play is measured; a fresh one without them.
     pub replica: Option<(Record, Vec<u8>)>,
 }
@@ -43,7 +47,7 @@ struct Depots {
     owed: VecDeque<u64>,
 }
 
-/// A log of so many slots. Transaction numbers are the multiples of the stride; the append has one that is new.
+/// A log of so many slots, written before: its stale reads are half a version, which mostly is astray. Transaction numbers are the multiples of the stride; the append has one that is new.
 pub fn workload(slots: usize, seed: u64, stride: u32) -> Made {
     let mut depots = Depots {
         random: Random::new(seed),
@@ -56,13 +60,14 @@ pub fn workload(slots: usize, seed: u64, stride: u32) -> Made {
     };
     while depots.writer.tail < slots {
         let request = depots.next();
-        let answer = depots.writer.append(&request);
+        let answer = append_before(&mut depots.writer, &request);
         assert!(answer.is_done(), "{request:?} is refused: {answer:?}");
         depots.run.feed(&request, false);
     }
     Made {
         log: depots.writer.log,
         number: depots.last_number + stride,
+        reads: None,
         replica: None,
     }
 }

@@ -1,11 +1,12 @@
 //! Logs that are made to be slow, each beside one of the same kind that is not: transaction numbers that share a place in some
-//! table, checkpoints of objects with many keys, entries full of writes, cells whose rows come before those that are there.
+//! table, checkpoints of objects with many keys, entries full of writes, cells whose rows come before those that are there. And
+//! logs on which a commit has much to look at, whose commit is measured beside their check.
 
 use reference::append::{Request, Writer};
 use reference::objects::{set_of, OBJECTS};
-use reference::replica::Record;
-use reference::sample::{commit, put, table_of, update};
-use reference::slot::{Write, MOST_ITEMS};
+use reference::replica::{version_at, Record};
+use reference::sample::{commit, put, read, read_bytes, table_of, update};
+use reference::slot::{Read, Write, MOST_ITEMS};
 use reference::table::Row;
 
 use crate::workload::Made;
@@ -112,9 +113,22 @@ pub const LOGS: [Log; 24] = [
     ),
 ];
 
+/// Logs for a commit of 12 reads whose versions are all true, of cells that are written at the beginning alone.
+pub const COMMITS: [Log; 3] = [
+    plain("12 reads of one far transaction", |size| {
+        reads_far(size, 1, OTHER, 1)
+    }),
+    plain("12 reads of 12 far transactions", |size| {
+        reads_far(size, 12, OTHER, 1)
+    }),
+    plain("12 reads of one transaction as long as the log", |size| {
+        reads_far(size, 1, 1, MOST_ITEMS as u32)
+    }),
+];
+
 /// The log of a name.
 pub fn log(name: &str, size: usize) -> Option<Made> {
-    let found = LOGS.iter().find(|log| log.name == name)?;
+    let found = LOGS.iter().chain(&COMMITS).find(|log| log.name == name)?;
     Some((found.maker)(size))
 }
 
@@ -144,6 +158,7 @@ impl Growing {
         Made {
             log: self.writer.log,
             number: self.number,
+            reads: None,
             replica: None,
         }
     }
@@ -282,6 +297,48 @@ fn one_entry(size: usize, key: u32) -> Made {
     };
     Made {
         replica: Some((record, table_of(&rows))),
+        ..log.made()
+    }
+}
+
+/// A number that is none of the transactions read.
+const OTHER: u32 = 20;
+
+/// At the beginning transactions from 1 on write 12 cells of object 5 together, an update each; at the end are their commit records,
+/// an update of the number whose commit is measured, and one entry for that commit to replace. Between them are updates of one
+/// number that write other cells of the object, so many in each.
+fn reads_far(size: usize, transactions: u32, number: u32, writes: u32) -> Made {
+    let cells: Vec<Write> = (0..MOST_ITEMS as u32).map(|key| put(5, key, 1)).collect();
+    let each = MOST_ITEMS / transactions as usize;
+    let rest = transactions as usize + 2;
+    assert!(
+        size >= 2 * rest,
+        "a log of {size} entries has no room for it"
+    );
+    let mut log = Growing::new(size);
+    for (transaction, cells) in (1..).zip(cells.chunks(each)) {
+        log.append(transaction, &update(transaction, cells));
+    }
+    while log.writer.tail + rest < size {
+        let first = log.writer.tail as u32;
+        let other = (0..writes).map(|place| put(5, 12 + (first + place) % 9_000, first));
+        log.append(number, &update(number, &other.collect::<Vec<Write>>()));
+    }
+    let mut reads: Vec<Read> = Vec::new();
+    for (transaction, cells) in (1..).zip(cells.chunks(each)) {
+        let version = version_at(log.writer.tail);
+        reads.extend(
+            cells
+                .iter()
+                .map(|cell| read(cell.object, cell.key, version)),
+        );
+        log.append(transaction, &commit(transaction, &[]));
+    }
+    let number = OTHER + 1;
+    log.append(number, &update(number, &[put(2, 7, 42)]));
+    log.append(number, &update(0, &[put(2, 7, 43)]));
+    Made {
+        reads: Some(read_bytes(&reads)),
         ..log.made()
     }
 }

@@ -1,5 +1,5 @@
-//! The benchmark: check, append, play of all and audit, by the library under test and by the second implementation, on
-//! the same logs.
+//! The benchmark: check, append, commit, play of all and audit, by the library under test and by the second implementation,
+//! on the same logs.
 //!
 //! usage: bench [--worst] [--sizes N,N,..] [--limit SECONDS] [--seed S] [--stride T] [--rounds R] [--before BENCH] [--report FILE] [--plot FILE]
 //!
@@ -11,8 +11,8 @@
 //! same run, and must give the same answer and `out`; the layout of its bytes may be another one. `--report` writes the
 //! table with some words of explanation, `--plot` a plot as SVG.
 //!
-//! With `--worst` the logs are those that are made to be slow, each beside one that is not; it prints which rows take
-//! over 3 times as long, and `--report` writes a section of the page. Seed, stride, `--before` and `--plot` do nothing then.
+//! With `--worst` the logs are those that are made to be slow, each beside one that is not, and some whose commit is
+//! measured beside their check; it prints which rows take over 3 times as long, and `--report` writes a section of the page. Seed, stride, `--before` and `--plot` do nothing then.
 
 use std::process::ExitCode;
 use std::{env, fs};
@@ -22,7 +22,7 @@ use differ::page::{self, Slow};
 use differ::plot::plot;
 use differ::points::{rows, Asked, Column};
 use differ::workload::workload;
-use differ::worst::{log, LOGS};
+use differ::worst::{log, COMMITS, LOGS};
 
 struct Options {
     worst: bool,
@@ -152,8 +152,8 @@ fn depots(options: &Options) -> Result<(), String> {
         all.extend(rows(call, &columns, &options.asked)?);
     }
     let table = page::table(&all, &columns, options.asked.limit);
-    let appends = page::appends(&all, &columns);
-    let tables = format!("{table}\n{appends}");
+    let [appends, commits] = ["append", "commit"].map(|call| page::appends(call, &all, &columns));
+    let tables = format!("{table}\n{appends}\n{commits}");
     print!("{tables}");
     if let Some(file) = &options.plot {
         store(file, &plot(&page::lines(&all, &columns)))?;
@@ -181,13 +181,30 @@ fn worst(options: &Options) -> Result<(), String> {
             Column::reference(Some(log.name)),
         ];
         let mut of_log = Vec::new();
-        for call in CALLS {
+        for call in CALLS.into_iter().filter(|call| *call != "commit") {
             of_log.extend(rows(call, &columns, asked)?);
         }
         all.push(Slow {
             log,
             beside,
             rows: of_log,
+        });
+    }
+    for log in &COMMITS {
+        eprintln!("{}", log.name);
+        let check = Column {
+            call: Some("check"),
+            ..Column::library(Some(log.name))
+        };
+        let columns = [
+            Column::library(Some(log.name)),
+            check,
+            Column::reference(Some(log.name)),
+        ];
+        all.push(Slow {
+            log,
+            beside: "its check",
+            rows: rows("commit", &columns, asked)?,
         });
     }
     let table = page::slow_table(&all, &asked.sizes, asked.limit);
