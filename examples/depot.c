@@ -1,7 +1,7 @@
 /*
  * A depot's day on the shared stock log, over the C interface: plain updates, two transactions that read the same cell, a decision
- * record, a van's replica that waits for it and goes on, a checkpoint, and the audit. examples/run compiles it, runs it and
- * compares what it prints with examples/depot.expected.
+ * record, a van's replica that waits for it and goes on, a checkpoint, a client that sends an offset for a version, and the audit.
+ * examples/run compiles it, runs it and compares what it prints with examples/depot.expected.
  */
 #include "stocklog.h"
 
@@ -48,6 +48,8 @@ static void appended(const char *what, uint32_t result, const uint64_t out[4])
     if (result == STOCKLOG_DONE) {
         printf("%s: offset %llu\n", what, (unsigned long long)tail);
         tail = out[0];
+    } else if (result == STOCKLOG_ASTRAY) {
+        printf("%s: refused %lu, read %llu\n", what, (unsigned long)result, (unsigned long long)out[3]);
     } else {
         printf("%s: refused %lu\n", what, (unsigned long)result);
     }
@@ -180,6 +182,7 @@ int main(void)
 {
     static struct replica depot, van, second;
     struct items morning = {{0}, 0}, moves = {{0}, 0}, orders = {{0}, 0}, read9 = {{0}, 0}, read10 = {{0}, 0};
+    struct items returns = {{0}, 0}, wrong = {{0}, 0}, right = {{0}, 0};
     uint64_t out[4], first_commit, second_commit, checkpoint;
 
     /* The morning's counts: 43 filters in the north depot, 6 in the van; price list 12. */
@@ -235,6 +238,21 @@ int main(void)
                                  second.table, sizeof second.table, out) == STOCKLOG_DONE)
         keep(&second, out);
     show("the second van", &second, VAN, FILTER);
+
+    /* Transaction 11 brings the van's filter back. For the van's cell its client sends the offset of the entry that changed it, 3, and
+       not the version that the depot shows, 4. It is told which read is at fault, from 0, and sends the version. */
+    put(&returns, NORTH, FILTER, 43);
+    put(&returns, VAN, FILTER, 6);
+    update("transaction 11 sets aside", 11, &returns);
+    show("the depot", &depot, VAN, FILTER);
+    seen(&wrong, NORTH, FILTER, 4);
+    seen(&wrong, VAN, FILTER, 3);
+    commit("transaction 11 commits with an offset", 11, &wrong);
+    seen(&right, NORTH, FILTER, 4);
+    seen(&right, VAN, FILTER, 4);
+    commit("transaction 11 commits", 11, &right);
+    play("the depot", &depot);
+    show("the depot", &depot, VAN, FILTER);
 
     /* What the log has, and whether every decision and checkpoint is as played. */
     entry(first_commit);

@@ -9,9 +9,9 @@
  * - A slice is a pointer and a length in elements, in that order.
  * - The result is STOCKLOG_DONE, or the number of a refusal.
  * - The last argument, out, is written whole on every return, whatever was in it: values in out[0] to out[2], and in out[3] what a
- *   refusal tells: an offset with STOCKLOG_BAD_ENTRY, STOCKLOG_FALSE_RECORD and the audit's STOCKLOG_NO_ROOM. A place in which
- *   nothing is said is 0. So out[3] is 0 for every other answer; it is also 0 where the number told is 0: the result tells the
- *   two apart.
+ *   refusal tells: an offset with STOCKLOG_BAD_ENTRY, STOCKLOG_FALSE_RECORD and the audit's STOCKLOG_NO_ROOM, the place of a read
+ *   with STOCKLOG_ASTRAY. A place of out in which nothing is said is 0. So out[3] is 0 for every other answer; it is also 0 where
+ *   the number told is 0: the result tells the two apart.
  *   Unless a call's text says otherwise, out[0] to out[2] are 0 where the call is refused.
  * - No call keeps a pointer, allocates, has state of its own, or waits. Calls from several threads are safe as long as none of
  *   them writes what another uses.
@@ -45,6 +45,7 @@
  *   a checkpoint's cell: key 4, value 4, version 8 (the top bit set for a removed cell)
  *
  * A VERSION is one more than the offset of the entry that last changed a cell; 0 for a cell never written. A removed cell has one.
+ * It is what stocklog_read_cell answers, and what a read has; an offset sent in its place is one too low (STOCKLOG_ASTRAY).
  *
  * A REPLICA is a record of three numbers, which the caller keeps and hands over: the hosted set (one byte: bit 0 for object 1, up
  * to bit 7 for object 8), the position, and the count of cells; and a lent table of 24-byte rows, one cell each: object 4, key 4,
@@ -67,7 +68,7 @@
 extern "C" {
 #endif
 
-/* The result of every call. "Left behind" is said at each call; with 1 to 10 and 14 nothing is changed, whatever the call. */
+/* The result of every call. "Left behind" is said at each call; with 1 to 10, 14 and 16 nothing is changed, whatever the call. */
 enum {
     STOCKLOG_DONE = 0,
     STOCKLOG_FRAME = 1,         /* log_len not whole slots, over 131,072 slots, or tail above the slots */
@@ -85,7 +86,10 @@ enum {
     STOCKLOG_WAITING = 12,      /* play: a commit record whose reads are not all hosted, with no decision record yet */
     STOCKLOG_NO_ROOM = 13,      /* more new cells than the table has room for, more offsets than the list, or more than
                                    12 cells for a checkpoint; from the audit, out[3]: the entry's offset */
-    STOCKLOG_BEHIND = 14        /* a checkpoint from a replica that is not at the tail */
+    STOCKLOG_BEHIND = 14,       /* a checkpoint from a replica that is not at the tail */
+    STOCKLOG_ASTRAY = 16        /* a commit has a read with a version v over 0, and the entry at v - 1 is neither a plain
+                                   update that writes the cell nor a commit record whose updates do; out[3]: the place,
+                                   from 0, of the first such read */
 };
 
 /* Kinds of entry, as stocklog_entry says them. */
@@ -185,7 +189,9 @@ uint32_t stocklog_append_update(
 /*
  * A commit record with 0 to 12 reads: the transaction commits where every read's version is the cell's version there.
  * Refusals: 1, 2, 3 (number 0; reads_len not 16 times 0 to 12; a read's object or key; a version above the tail; reads not
- * strictly ascending), 4, 6, 9.
+ * strictly ascending), 4, 6, 16 (a read's version is no version that the cell had or, had a commit record committed, would have
+ * had; out[3] its place from 0), 9. A stale version is not refused: it makes the transaction abort. What a replica of a log that
+ * the audit passes shows is never refused with 16. Logs that have such reads already stay good.
  */
 uint32_t stocklog_append_commit(
     uint8_t *log, size_t log_len, uint64_t tail, uint32_t number, const uint8_t *reads, size_t reads_len,
