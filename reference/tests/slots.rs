@@ -2,11 +2,13 @@
 
 use reference::append::{self, Writer};
 use reference::audit::audit;
+use reference::auditing::auditing;
 use reference::broken::broken;
 use reference::cases::{frames, good, reading, Case, Expected};
 use reference::log::{check, list, scan};
+use reference::playing::playing;
 use reference::random::{History, Mix};
-use reference::slot::{slot_at, SLOT};
+use reference::slot::{slot_at, Kind, SLOT};
 use reference::table::CELL;
 use reference::Answer;
 
@@ -32,6 +34,58 @@ fn the_cases_are_as_expected() {
             assert_eq!(found(&case), case.expected, "{}", case.name);
         }
     }
+}
+
+/// What comes of a log's commit records, each appended once more over the entries below it: how many are written as they are, and
+/// how many have an astray read.
+fn appended_again(log: &[u8], tail: usize) -> [u32; 2] {
+    let mut counts = [0; 2];
+    for at in (0..tail).filter(|&at| slot_at(log, at).kind() == Some(Kind::Commit)) {
+        let entry = slot_at(log, at);
+        let mut again = log.to_vec();
+        again[at * SLOT..].fill(0x33);
+        match append::commit(&mut again, at, entry.number(), entry.items()) {
+            Answer::Done(after) => {
+                assert_eq!(again[..after * SLOT], log[..after * SLOT]);
+                counts[0] += 1;
+            }
+            Answer::Refused { number, told } => {
+                assert!(number == 16 && told < Some(entry.item_count() as u64));
+                counts[1] += 1;
+            }
+        }
+    }
+    counts
+}
+
+/// Stored logs have commit records with astray reads, from before 16 was told, and are good.
+#[test]
+fn logs_written_before_are_good() {
+    let read = reading()
+        .into_iter()
+        .map(|case| (case.log, case.tail as usize));
+    let played = playing().into_iter().chain(auditing()).map(|case| {
+        let tail = case.log.len() / SLOT;
+        (case.log, tail)
+    });
+    let (mut read_counts, mut played_counts) = ([0; 2], [0; 2]);
+    for (counts, logs) in [
+        (&mut read_counts, read.collect::<Vec<_>>()),
+        (&mut played_counts, played.collect()),
+    ] {
+        for (log, tail) in logs {
+            if check(&log, tail) == Answer::Done(()) {
+                let of_log = appended_again(&log, tail);
+                counts[0] += of_log[0];
+                counts[1] += of_log[1];
+            }
+        }
+    }
+    assert!(read_counts[0] > 30 && read_counts[1] > 5, "{read_counts:?}");
+    assert!(
+        played_counts[0] > 100 && played_counts[1] > 20,
+        "{played_counts:?}"
+    );
 }
 
 #[test]
