@@ -45,7 +45,8 @@
  *   a checkpoint's cell: key 4, value 4, version 8 (the top bit set for a removed cell)
  *
  * A VERSION is one more than the offset of the entry that last changed a cell; 0 for a cell never written. A removed cell has one.
- * It is what stocklog_read_cell answers, and what a read has; an offset sent in its place is one too low (STOCKLOG_ASTRAY).
+ * It is what stocklog_read_cell answers, and what a read has. An offset sent in its place is one too low: STOCKLOG_ASTRAY is for that,
+ * though offset 0, and one that is a version of the cell by chance, pass.
  *
  * A REPLICA is a record of three numbers, which the caller keeps and hands over: the hosted set (one byte: bit 0 for object 1, up
  * to bit 7 for object 8), the position, and the count of cells; and a lent table of 24-byte rows, one cell each: object 4, key 4,
