@@ -41,7 +41,7 @@ calls-accept c =
 
 -- an accepted append over the log at l, which is the one it was given: what the model says of it, in the words of the values
 module _ (l : Lent) (c : AppendCall) (t : ℕ) (given : lentAt c ≡ l) (d : seen c .answer ≡ appended.Tail t) where
-  accepted-so : Accepted depots l (seen c .request)
+  pub accepted-so : Accepted depots l (seen c .request)
   accepted-so =
       ap (λ (x : Lent). isRefused (model.append depots (x .bytes) (x .tail) (seen c .request) .newTail)) (sym given)
       ∙ answered c ∙ ap (λ x. isRefused (tailIn x)) d
@@ -52,7 +52,7 @@ module _ (l : Lent) (c : AppendCall) (t : ℕ) (given : lentAt c ≡ l) (d : see
       ∙ ap (λ x. lent (seen c .left) (tailAfter (seen c .tail) (tailIn x))) d
 
   -- the log some appends later
-  later-so : (later : List AppendCall) → Grows (seen c .left) t later → grown depots (after depots l (seen c .request)) (requests later) ≡ leftBy (seen c .left) t later
+  pub later-so : (later : List AppendCall) → Grows (seen c .left) t later → grown depots (after depots l (seen c .request)) (requests later) ≡ leftBy (seen c .left) t later
   later-so later g = ap (λ (x : Lent). grown depots x (requests later)) after-so ∙ left-grown (seen c .left) t later g
 
 pub calls-write : CallsWrite

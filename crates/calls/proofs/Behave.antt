@@ -32,7 +32,7 @@ module _ (a : Appends) where
   abbrev h : History
   h = history a
 
-  passed : (c : AuditCall (lastLog a)) → auditLeft c .answer ≡ done tt → Passed depots h (scratch c)
+  pub passed : (c : AuditCall (lastLog a)) → auditLeft c .answer ≡ done tt → Passed depots h (scratch c)
   passed c d =
       ap (λ (l : Lent). model.audit depots (inLog l) (scratch c) .answer) (whole-left a)
       ∙ ap (λ (x : model.Left). x .answer) (sym (audit-promise (lastLog a) c)) ∙ d
@@ -53,7 +53,7 @@ module _ (a : Appends) where
   played-so k p =
       ap (λ (l : Lent). playOn depots l (carry k) (stopOf (p .on))) (stood-left a (p .stoodAfter)) ∙ sym (play-promise (logAfter a (p .stoodAfter)) k (p .on))
 
-  plays-so : (k last : Kept) → Plays a k last → (ps : List Play) × (plays depots h (carry k) ps ≡ carry last)
+  pub plays-so : (k last : Kept) → Plays a k last → (ps : List Play) × (plays depots h (carry k) ps ≡ carry last)
   unfolding plays
   plays-so k last (none x) = ([], refl)
   plays-so k last (more x y p rest) =

@@ -9,3 +9,4 @@ pub mod Behave
 pub mod Instalments
 pub mod Order
 pub mod Headers
+pub mod ReadSets

@@ -2,3 +2,4 @@ pub mod Values
 pub mod Claims
 pub mod Order
 pub mod Headers
+pub mod ReadSets
