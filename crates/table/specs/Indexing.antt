@@ -1,30 +1,31 @@
 -- An index of new rows: of none at first, of one row more, with another hint; and what a search in it tells. It goes by the rows'
 -- cells alone (`rankIn`).
-use mathlib.Core.Path.{_≡_, refl, ap, ap₂, sym, subst, _∙_}
+use mathlib.Core.Path.{_≡_, refl, ap, sym, subst, _∙_}
 use mathlib.Core.Bool.{Bool, true, false, cond}
-use mathlib.Core.List.{List, [], _∷_, _++_, map}
-use Prim.Native.Nat.{ℕ, zero, suc, _+_, _-_, _*_, _/_, _^_, _≤_, _<_}
+use mathlib.Core.List.{List, [], _∷_, map}
+use Prim.Native.Nat.{ℕ, suc, _+_, _-_, _*_, _^_, _≤_, _<_}
 use native.Mathlib.Omega.{arith}
 use lib.Dec.{eqb}
 use borrow.Author.Tests.{eq-eqb}
 use Rattle.lists.specs.Bytes.{beAt}
-use lib.ListN.{length, getD, set, replicate, length-append, length-map, length-replicate, getD-replicate, length-set, List·getD-map}
+use lib.ListN.{length, getD, replicate, length-map, length-replicate, getD-replicate, List·getD-map}
 use Rattle.lists.specs.Sets.{all}
-use Rattle.model.specs.Table.{Cell, isOf, cellAt, cellsOf, cellSize}
+use Rattle.model.specs.Table.{Cell, isOf, cellAt, cellSize}
 use Rattle.laws.proofs.CellOrder.{of-itself}
 use Rattle.laws.proofs.Ordered.{once}
 use Rattle.tree.specs.Form.{head-formed}
 use Rattle.tree.specs.Tree.{Tree, tree-zeros}
 use Rattle.tree.specs.Search.{Place}
-use Rattle.tree.specs.Kept.{tree-behind, tree-keys, place-keys}
+use Rattle.tree.specs.Kept.{tree-keys, place-keys}
 use Rattle.table.specs.Rows.{rowIn}
 use Rattle.table.specs.RowLaws.{row-once}
-use Rattle.table.specs.Order.{rankOf, rowsOf, ofObject}
+use Rattle.codec.specs.Cells.{rankOf}
+use Rattle.table.specs.Order.{rowsOf, ofObject}
 use Rattle.table.specs.Ranks.{rank-at, is-rank, key-small}
 use Rattle.table.specs.RowsOf.{length-rows, row-of}
 use Rattle.table.specs.Seek.{headOf, cellForm, rankAt, RowTree, CellPlace}
 use Rattle.table.specs.SeekLaws.{head-below, place-row}
-use Rattle.table.specs.Runs.{used, headsIn, mostNew, counted, countAt, rankIn, Indexed}
+use Rattle.table.specs.Runs.{headsIn, mostNew, countAt, rankIn, Indexed}
 use Rattle.table.specs.Stores.{bare}
 
 -- ---- ranks

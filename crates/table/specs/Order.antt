@@ -2,7 +2,7 @@
 use mathlib.Core.Path.{_≡_}
 use mathlib.Core.Bool.{Bool, true, cond}
 use mathlib.Core.List.{List, [], _∷_}
-use Prim.Native.Nat.{ℕ, zero, suc, _+_, _-_, _*_, _^_, _≤_}
+use Prim.Native.Nat.{ℕ, zero, suc, _+_, _-_, _*_, _≤_}
 use lib.Dec.{eqb}
 use lib.ListN.{length}
 use Rattle.lists.specs.Rows.{values}
@@ -13,10 +13,6 @@ use Rattle.table.specs.Rows.{rowIn}
 -- the row comes before the cell of object o with key k
 abbrev pub before : ℕ → ℕ → Cell → Bool
 before o k c = lexBefore c.object c.key o k
-
--- object and key as one number: that of a row's first eight bytes
-abbrev pub rankOf : ℕ → ℕ → ℕ
-rankOf o k = o * 2 ^ 32 + k
 
 -- the n rows of a table from row i on
 unfoldable pub rowsOf : List ℕ → ℕ → ℕ → List Cell

@@ -12,7 +12,8 @@ use Rattle.laws.specs.FirstWriting.{insertCell}
 use Rattle.laws.proofs.Ordered.{once}
 use Rattle.table.specs.Rows.{rowIn}
 use Rattle.tree.specs.Tree.{Tree}
-use Rattle.table.specs.Order.{rankOf, rowsOf, ofObject}
+use Rattle.codec.specs.Cells.{rankOf}
+use Rattle.table.specs.Order.{rowsOf, ofObject}
 use Rattle.table.specs.Seek.{cellForm}
 
 -- a row put in at a place

@@ -10,7 +10,7 @@ use Rattle.tree.specs.Form.{Form, byHead}
 use Rattle.tree.specs.Tree.{Tree}
 use Rattle.tree.specs.Search.{Place}
 use Rattle.model.specs.Table.{cellSize}
-use Rattle.table.specs.Order.{rankOf}
+use Rattle.codec.specs.Cells.{rankOf}
 
 -- a hash of the cell of object o with key k
 unfoldable pub hashOf : ℕ → ℕ → ℕ

@@ -16,7 +16,8 @@ use Rattle.model.specs.Rules.{fits}
 use Rattle.model.specs.Table.{Cell, cellAt, isOf, cellSize}
 use Rattle.laws.proofs.Items.{fitsCell}
 use Rattle.table.specs.Rows.{rowIn}
-use Rattle.table.specs.Order.{rankOf, rowsOf, behind}
+use Rattle.codec.specs.Cells.{rankOf}
+use Rattle.table.specs.Order.{rowsOf, behind}
 use Rattle.table.specs.Ranks.{is-rank}
 use Rattle.table.specs.Ordered.{orRow, row-append}
 use Rattle.table.specs.RowsOf.{length-rows}

@@ -7,7 +7,7 @@ use lib.ListN.{length, getD}
 use Rattle.tree.specs.Form.{head-bits}
 use Rattle.tree.specs.Search.{Place, Descending, descending-start, descending-room, descending-few, descending-high, descending-none, descending-found, descending-next, descending-below}
 use Rattle.model.specs.Table.{cellSize}
-use Rattle.table.specs.Order.{rankOf}
+use Rattle.codec.specs.Cells.{rankOf}
 use Rattle.table.specs.Seek.{headOf, cellForm, rankAt, RowTree, Seeks, Sought}
 
 -- at depth d the way of the cell of rank k is at the slot s, and q is left of the rank

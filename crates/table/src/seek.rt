@@ -2,7 +2,7 @@
 // the node i. A new row is put in by `tree::put`.
 ghost use mathlib.Core.Path.{_≡_};
 ghost use Prim.Native.Nat.{_≤_};
-ghost use Rattle.table.specs.Order.{rankOf};
+ghost use Rattle.codec.specs.Cells.{rankOf};
 ghost use Rattle.table.specs.Seek.{hashOf, headOf, Seeks, Sought};
 use codec::layout::CELL_SIZE;
 use codec::names::ObjectId;
@@ -44,7 +44,7 @@ pub fn place(
     requires { ⌜ Seeks (now table) main (now index) heads ⌝ }
     ensures { λ r. ⌜ Sought (now (table .entry)) main (now (index .entry)) heads (id .0) key r ⌝ }
 {
-    let cell = crate::order::rank(id, key);
+    let cell = codec::cells::rank(id, key);
     let mut slot = head_of(id, key, heads);
     let mut rest = cell;
     let mut depth: usize = 0;
