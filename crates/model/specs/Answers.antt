@@ -50,6 +50,10 @@ slots ly log = log .size / ly .slotSize
 unfoldable pub badFrame : Layout → Log → Bool
 badFrame ly log = not (eqb (log .size % ly .slotSize) 0) || ltb mostSlots (slots ly log) || ltb (slots ly log) (log .tail)
 
--- 1 and 2, with which every call on a log begins
+-- 15, ahead of all: the directory that was handed over is at fault (13.3)
+abbrev pub badDirectory : Shape → Option Refusal
+badDirectory sh = refuseAt 15 (sh .fault)
+
+-- 15, 1 and 2, with which every call on a log begins
 abbrev pub frameAndEntries : Shape → Log → List (Option Refusal)
-frameAndEntries sh log = refuse 1 (badFrame sh.layout log) ∷ refuseAt 2 (lowestBad sh log) ∷ []
+frameAndEntries sh log = badDirectory sh ∷ refuse 1 (badFrame sh.layout log) ∷ refuseAt 2 (lowestBad sh log) ∷ []

@@ -3,6 +3,7 @@ pub mod Entries
 pub mod Slot
 pub mod Headers
 pub mod Rules
+pub mod Directory
 pub mod Table
 pub mod Play
 pub mod Answers

@@ -11,11 +11,12 @@ use Rattle.model.specs.Table.{versionIn}
 use Rattle.model.specs.Answers.{done, refused}
 use Rattle.model.specs.Append.{Request, commits, conditionGiven}
 use Rattle.model.specs.Histories.{Lent, inLog, appendTo, Accepted, after, grown, History, stood, Passed, Carried, Opening, opened, Play, plays, shown}
-use Rattle.model.specs.Terms.{GoodFrame, AllGood, Pointed, CommitAsked}
+use Rattle.model.specs.Terms.{Directed, GoodFrame, AllGood, Pointed, CommitAsked}
 
 -- Nothing that comes before 16 stops the commit, the read at place i points to no entry that writes its cell, and each read before it does
 -- or has version 0.
 pub record FirstAstray (sh : Shape) (l : Lent) (n : ℕ) (items : List ℕ) (i : ℕ) : Type 0 where
+  pub directed : Directed sh
   pub framed : GoodFrame sh l
   pub good : AllGood sh (inLog sh l)
   pub asked : CommitAsked sh (inLog sh l) n items

@@ -6,12 +6,12 @@ use mathlib.Core.Option.{Option, none, some}
 use lib.Dec.{eqb, leb, ltb}
 use lib.ListN.{length}
 use Rattle.lists.specs.Sets.{mem}
-use Rattle.model.specs.Objects.{Shape, ids, isCell, hosted, setOf, everything}
+use Rattle.model.specs.Objects.{Shape, ids, isCell, hosted, setOf, everything, badSet}
 use Rattle.model.specs.Entries.{Held, Saved, Entry, plain, numbered, commit, decision, checkpoint, blank, Log, commitAt, ifSome, isNone}
 use Rattle.model.specs.Rules.{lowest}
 use Rattle.model.specs.Table.{Cell, cellsOf, tableWith, capacity, lookup, cellOf, savedOf}
 use Rattle.model.specs.Play.{Played, going, waits, lacks, cellsIn, commitsOver, play, Beginning, beginning}
-use Rattle.model.specs.Answers.{Refusal, Answer, done, refused, refuse, refuseAt, firstOf, answer, frameAndEntries}
+use Rattle.model.specs.Answers.{Refusal, Answer, done, refused, refuse, refuseAt, firstOf, answer, badDirectory, frameAndEntries}
 use Rattle.model.specs.Append.{Replica, badRecord, badReplica}
 
 -- a replica's record and table as a call leaves them, with its answer
@@ -31,9 +31,9 @@ leftWith a set p table cells = record { answer = a; replica = record { hosting =
 abbrev pub noReplica : Replica
 noReplica = record { hosting = 0; position = 0; count = 0 }
 
--- Opening fresh: 10.
-unfoldable pub openFresh : ℕ → Answer Replica
-openFresh set = answer (refuse 10 (eqb set 0)) (record { hosting = set; position = 0; count = 0 })
+-- Opening fresh: 15, 10.
+unfoldable pub openFresh : Shape → ℕ → Answer Replica
+openFresh sh set = answer (firstOf (badDirectory sh ∷ refuse 10 (badSet sh set) ∷ [])) (record { hosting = set; position = 0; count = 0 })
 
 -- a checkpoint's object and cells; none for another entry
 pub record Checkpoint : Type 0 where
@@ -48,7 +48,7 @@ checkpointIn (decision d) = none
 checkpointIn (checkpoint o cs) = some (record { object = o; cells = map (λ (c : Saved). cellOf o c.key c.held) cs })
 checkpointIn blank = none
 
--- Opening at a checkpoint: 1, 2, 3, 13.
+-- Opening at a checkpoint: 15, 1, 2, 3, 13.
 abbrev pub openRefusal : Shape → Log → ℕ → List ℕ → Option Refusal
 openRefusal sh log o table = firstOf (frameAndEntries sh log
     ++ (refuse 3 (leb (log .tail) o || isNone (checkpointIn (log .entry o)))
@@ -71,10 +71,10 @@ openAt sh log o table = openGiven sh o table (openRefusal sh log o table) (check
 abbrev pub badStop : ℕ → Replica → ℕ → Bool
 badStop tail r stop = ltb tail stop || ltb stop (r .position)
 
--- Play: 1, 2, 10, 3, then at an entry 12 before 13.
+-- Play: 15, 1, 2, 10, 3, then at an entry 12 before 13.
 abbrev pub playRefusal : Shape → Log → Replica → List ℕ → ℕ → Option Refusal
 playRefusal sh log r table stop = firstOf (frameAndEntries sh log
-    ++ (refuse 10 (badReplica (log .tail) r table) ∷ refuse 3 (badStop (log .tail) r stop) ∷ []))
+    ++ (refuse 10 (badReplica sh (log .tail) r table) ∷ refuse 3 (badStop (log .tail) r stop) ∷ []))
 
 -- done at the stop; 12 and 13 at the entry where it ended (9.11)
 abbrev pub leftBy : ℕ → ℕ → List ℕ → Played → Left
@@ -92,10 +92,10 @@ playFrom sh log r table stop = play sh log (hosted sh (r .hosting)) (capacity ta
 unfoldable pub playCall : Shape → Log → Replica → List ℕ → ℕ → Left
 playCall sh log r table stop = playGiven r stop table (playFrom sh log r table stop) (playRefusal sh log r table stop)
 
--- Cell reading: 10 (no tail is given, so position is not tested), then 3. None where the cell was never written.
+-- Cell reading: 15, 10 (no tail is given, so position is not tested), then 3. None where the cell was never written.
 unfoldable pub readCell : Shape → Replica → List ℕ → ℕ → ℕ → Answer (Option Held)
 readCell sh r table o k =
-    answer (firstOf (refuse 10 (badRecord r table) ∷ refuse 3 (not (mem o (hosted sh (r .hosting)) && isCell sh o k)) ∷ []))
+    answer (firstOf (badDirectory sh ∷ refuse 10 (badRecord sh r table) ∷ refuse 3 (not (mem o (hosted sh (r .hosting)) && isCell sh o k)) ∷ []))
     (lookup (cellsOf table (r .count)) o k)
 
 -- the audit's play: every object, from the beginning (11.1)
@@ -131,7 +131,7 @@ asPlayed sh log room p blank = true
 abbrev pub lowestFalse : Shape → Log → ℕ → Option ℕ
 lowestFalse sh log room = lowest (λ p. not (asPlayed sh log room p (log .entry p))) (log .tail)
 
--- Audit: 1, 2, 13, 11. The scratch table is left as played; 13 tells its offset.
+-- Audit: 15, 1, 2, 13, 11. The scratch table is left as played; 13 tells its offset.
 abbrev pub auditLeft : ℕ → ℕ → List ℕ → Option ℕ → Played → Left
 auditLeft set tail table f (going cs) = leftWith (answer (refuseAt 11 f) tt) set tail table cs
 auditLeft set tail table f (waits q cs) = leftWith (plainly 12) set q table cs

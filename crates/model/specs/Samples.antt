@@ -39,6 +39,7 @@ small = record {
   objects = obj 1 aMap 2 true ∷ obj 2 aMap 9 false ∷ obj 3 aMap 2 true ∷ obj 4 aMap 2 true ∷ obj 5 aMap 2 false
       ∷ obj 6 aRegister 0 true ∷ obj 7 aRegister 0 false ∷ obj 8 aRegister 0 false ∷ [];
   layout = theLayout;
+  fault = none;
 }
 
 -- a play on the log as it stood after so many appends, to a stop; its answer, and the position that it leaves

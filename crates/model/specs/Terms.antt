@@ -19,7 +19,15 @@ use Rattle.model.specs.Append.{Replica, Request, update, commits, decide
 use Rattle.model.specs.Replica.{Left, plainly}
 use Rattle.model.specs.Histories.{Lent, inLog, Carried}
 
--- ---- the log
+-- ---- the directory and the log
+
+-- the directory that was handed over is within its rules
+abbrev pub Directed : Shape → Type 0
+Directed sh = sh .fault ≡ none
+
+-- every bit of a hosted set is that of an object of the directory
+abbrev pub Listed : Shape → ℕ → Type 0
+Listed sh set = set < 2 ^ length (sh .objects)
 
 -- the lent bytes are whole slots, not too many, and the tail is not above them
 pub record GoodFrame (sh : Shape) (l : Lent) : Type 0 where
@@ -76,9 +84,10 @@ InOrder [] = Unit {0}
 InOrder (c ∷ []) = Unit {0}
 InOrder (c ∷ d ∷ cs) = ((c .object < d .object) ⊎ ((c .object ≡ d .object) × (c .key < d .key))) × InOrder (d ∷ cs)
 
--- the record and the stop of a play: a hosted set, the counted cells within the table and in order, and a stop from the position to the tail
-pub record Fit (tail : ℕ) (r : Carried) (stop : ℕ) : Type 0 where
+-- the record and the stop of a play: a hosted set of listed objects, the counted cells within the table and in order, and a stop from the position to the tail
+pub record Fit (sh : Shape) (tail : ℕ) (r : Carried) (stop : ℕ) : Type 0 where
   pub hosting : r .replica .hosting ≡ 0 → ⊥
+  pub listed : Listed sh (r .replica .hosting)
   pub counted : r .replica .count ≤ capacity (r .table)
   pub ordered : InOrder (cellsOf (r .table) (r .replica .count))
   pub onward : r .replica .position ≤ stop
@@ -86,9 +95,10 @@ pub record Fit (tail : ℕ) (r : Carried) (stop : ℕ) : Type 0 where
 
 -- nothing refuses the play
 pub record Playable (sh : Shape) (l : Lent) (r : Carried) (stop : ℕ) : Type 0 where
+  pub directed : Directed sh
   pub framed : GoodFrame sh l
   pub good : AllGood sh (inLog sh l)
-  pub fit : Fit (l .tail) r stop
+  pub fit : Fit sh (l .tail) r stop
 
 -- how a play ends that nothing refused: at its stop, or before it, waiting or without room
 pub data Ended (stop : ℕ) (out : Left) : Type 0 where
@@ -167,6 +177,7 @@ pub record Saves (sh : Shape) (tail o k : ℕ) (h : Held) : Type 0 where
 
 pub record CheckpointAllowed (sh : Shape) (log : Log) (r : Replica) (table : List ℕ) (o : ℕ) : Type 0 where
   pub hosting : r .hosting ≡ 0 → ⊥
+  pub listed : Listed sh (r .hosting)
   pub counted : r .count ≤ capacity table
   pub ordered : InOrder (cellsOf table (r .count))
   pub there : r .position ≡ log .tail
@@ -183,6 +194,7 @@ Allowed sh log (saves r table o) = CheckpointAllowed sh log r table o
 
 -- no refusal's condition stops the append (13.3)
 pub record Unstopped (sh : Shape) (l : Lent) (q : Request) : Type 0 where
+  pub directed : Directed sh
   pub framed : GoodFrame sh l
   pub good : AllGood sh (inLog sh l)
   pub free : sh .layout .slotSize * (l .tail + 1) ≤ length (l .bytes)

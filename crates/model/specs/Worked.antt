@@ -10,20 +10,22 @@ use lib.ListN.{length, take, drop, replicate}
 use Rattle.lists.specs.Bytes.{beAt, bytesOf}
 use Rattle.lists.specs.Splice.{splice}
 use Rattle.lists.specs.Rows.{values, joined}
+use Rattle.lists.specs.Picks.{picks}
 use Rattle.lists.specs.First.{first, firstFrom}
 use Rattle.lists.specs.Equal.{eqList}
 use Rattle.lists.specs.Sets.{all}
-use Rattle.model.specs.Objects.{theLayout, depots, everything, isObject, isCell, isMarked, hosted}
+use Rattle.model.specs.Objects.{Object, ObjectKind, aMap, aRegister, theObjects, theLayout, depots, Shape, everything, isObject, isCell, isMarked, hosted}
 use Rattle.model.specs.Entries.{checkpoint, Log, writesOf, stamps, astray, closed, decided, headerObjects, numberOf, earlier}
-use Rattle.model.specs.Slot.{headersBegin, headerSize, itemsBegin, distanceTo, writeBytes, writeAt, readBytes, readAt, savedBytes, savedAt, itemBytes, itemCount, headerOf, slotOf, decode, slot, logIn, objectsIn}
+use Rattle.model.specs.Slot.{headersBegin, headerSize, itemsBegin, distanceTo, headerWith, writeBytes, writeAt, readBytes, readAt, savedBytes, savedAt, itemBytes, itemCount, headerOf, slotOf, decode, slot, logIn, objectsIn}
 use Rattle.model.specs.Headers.{BackPointer, nothing, at as entryAt, past, formatAt, backsAt, dueFormat, dueBacks}
 use Rattle.model.specs.Rules.{okEntry, lowest, lowestBad, okWrite, okWrites, okRead, okReads, okSaved, narrow, goodAt, repeats}
+use Rattle.model.specs.Directory.{recordSize, recordAt, okRecord, atFault, shapeOf, recordBytes, directoryOf}
 use Rattle.model.specs.Table.{Cell, cellSize, cellAt, cellBytes, cellsOf, tableWith, apply, savedOf, cellOf, lookup, inOrder, store}
 use Rattle.model.specs.Play.{play, commitsOver, step}
 use Rattle.model.specs.Answers.{Answer, done, refused, firstPlace, badFrame}
-use Rattle.model.specs.Reading.{check}
+use Rattle.model.specs.Reading.{check, owed, entryCall, infoIn, itemList, streamNext, streamList, offsetsOf}
 use Rattle.model.specs.Append.{Replica, Request, update, commits, decides, saves, entryOf, ownTests, append}
-use Rattle.model.specs.Replica.{Left, unopened, openFresh, playCall, readCell, sameContent, audit}
+use Rattle.model.specs.Replica.{Left, unopened, openFresh, openAt, playCall, readCell, sameContent, audit}
 use Rattle.model.specs.Report.{Outcome, outcomes, report}
 use Rattle.model.specs.Histories.{Lent, inLog, empty, grown}
 
@@ -89,6 +91,23 @@ pub data Row : Type 0 where
   apart : ℕ → Option ℕ → ℕ → Row
   -- a number of slots, the appends, a commit's number and reads, and what the commit is answered and told
   asks : ℕ → List Request → ℕ → List ℕ → ℕ → Option ℕ → Row
+  -- a directory's bytes, and the first place at fault
+  faulty : List ℕ → Option ℕ → Row
+  -- a directory, a hosted set, and what opening fresh is answered
+  opens : List ℕ → ℕ → ℕ → Row
+  -- a directory, the appends made with it, one more, and what that is answered
+  handed : List ℕ → List Request → Request → ℕ → Row
+  -- a directory, the appends made with the eight's, and what the check with the directory answers and tells
+  checked : List ℕ → List Request → ℕ → Option ℕ → Row
+  -- a directory, the appends made with it, a hosted set, the bytes of the table: what a play of a fresh replica to the tail answers and leaves, and
+  -- the hosted set and the cells that an audit leaves
+  both : List ℕ → List Request → ℕ → ℕ → Ends → ℕ → List Cell → Row
+  -- a directory, the appends made with it, an offset, and the record that opening there leaves
+  opensAt : List ℕ → List Request → ℕ → Replica → Row
+  -- an offset, an object, its earlier offsets, and the bytes of its header
+  headed : ℕ → ℕ → List ℕ → List ℕ → Row
+  -- a directory, and what every call with arguments that are all bad is answered, in the order of `allCalls`
+  judged : List ℕ → List ℕ → Row
 
 -- 0 for done, else the number of a refusal
 abbrev pub code : {A : Type 0} → Answer A → ℕ
@@ -116,13 +135,13 @@ sameCells cs ds = eqList (joined cellBytes cs) (joined cellBytes ds)
 abbrev pub lentTable : ℕ → List ℕ
 lentTable n = replicate n 7
 
-abbrev pub playIn : Lent → List ℕ → Answer Replica → Left
-playIn l table (done r) = playCall depots (inLog depots l) r table (l .tail)
-playIn l table (refused r) = unopened r table
+abbrev pub playIn : Shape → Lent → List ℕ → Answer Replica → Left
+playIn sh l table (done r) = playCall sh (inLog sh l) r table (l .tail)
+playIn sh l table (refused r) = unopened r table
 
 -- a fresh replica of this set played to the tail over a table of n bytes
 abbrev pub freshTo : Lent → ℕ → ℕ → Left
-freshTo l set n = playIn l (lentTable n) (openFresh set)
+freshTo l set n = playIn depots l (lentTable n) (openFresh depots set)
 
 -- the whole record and the whole table of n bytes: the cells in their order, the bytes past them untouched
 abbrev pub leftIs : ℕ → ℕ → Left → Ends → Bool
@@ -145,6 +164,23 @@ sameBacks bs cs = eqList (map backNumber bs) (map backNumber cs)
 -- a log with these bytes put over its own
 abbrev pub over : Lent → ℕ → List ℕ → Lent
 over l i bs = record { bytes = splice (l .bytes) i bs; tail = l .tail }
+
+-- the log that these appends leave in 6 slots, made with this directory
+abbrev pub logWith : Shape → List Request → Lent
+logWith sh qs = grown sh (empty (replicate (theLayout .slotSize * 6) 7)) qs
+
+-- every call: on 255 bytes as a log, with a tail of 1, a record without a set and with a cell more than its table has, and no object
+abbrev pub allCalls : Shape → List ℕ
+allCalls sh =
+    let l : Lent = record { bytes = replicate 255 7; tail = 1 } in
+    let r : Replica = record { hosting = 0; position = 2; count = 1 } in
+    let log = inLog sh l in
+    code (check sh log) ∷ code (owed sh log) ∷ code (entryCall sh log 1) ∷ length (itemList sh log 0)
+    ∷ code (streamNext sh log 0 0 .found) ∷ code (streamList sh log 0 [] .count)
+    ∷ code (append sh (l .bytes) (l .tail) (update 0 []) .newTail) ∷ code (append sh (l .bytes) (l .tail) (commits 0 []) .newTail)
+    ∷ code (append sh (l .bytes) (l .tail) (decides 1 0) .newTail) ∷ code (append sh (l .bytes) (l .tail) (saves r [] 0) .newTail)
+    ∷ code (openFresh sh 0) ∷ code (openAt sh log 1 [] .answer) ∷ code (playCall sh log r [] 3 .answer) ∷ code (readCell sh r [] 0 0)
+    ∷ code (audit sh log [] .answer) ∷ []
 
 unfoldable pub rowHolds : Row → Bool
 rowHolds (header qs o h) = let l = logBy 6 qs in eqList (take (headerSize theLayout) (drop headersBegin (slot theLayout (l .bytes) o))) h
@@ -170,6 +206,21 @@ rowHolds (asks n qs number rs a i) =
     let l = logBy n qs in
     let x = append depots (l .bytes) (l .tail) (commits number rs) .newTail in
     eqb (code x) a && sameOffset (tells x) i
+rowHolds (faulty d k) = sameOffset (shapeOf d .fault) k
+rowHolds (opens d set a) = eqb (code (openFresh (shapeOf d) set)) a
+rowHolds (handed d qs q a) = let sh = shapeOf d in let l = logWith sh qs in eqb (code (append sh (l .bytes) (l .tail) q .newTail)) a
+rowHolds (checked d qs a o) =
+    let sh = shapeOf d in
+    let x = check sh (inLog sh (logBy 6 qs)) in
+    eqb (code x) a && sameOffset (tells x) o
+rowHolds (both d qs set n e every cs) =
+    let sh = shapeOf d in
+    let l = logWith sh qs in
+    leftIs set n (playIn sh l (lentTable n) (openFresh sh set)) e
+    && leftIs every n (audit sh (inLog sh l) (lentTable n)) (ends (length qs) cs)
+rowHolds (opensAt d qs o r) = let sh = shapeOf d in sameReplica (openAt sh (inLog sh (logWith sh qs)) o (lentTable 24) .replica) r
+rowHolds (headed p x qs h) = eqList (headerWith theLayout p x qs) h
+rowHolds (judged d codes) = eqList (allCalls (shapeOf d)) codes
 rowHolds (spoilt qs i bs a o) =
     let l = over (logBy 6 qs) i bs in
     let x = check depots (inLog depots l) in
@@ -359,3 +410,111 @@ later =
 pub later-worked : all rowHolds later ≡ true
 unfolding rowHolds beAt bytesOf splice values joined first firstFrom eqList writesOf stamps astray closed decided headerObjects earlier writeBytes writeAt readBytes readAt savedBytes savedAt itemBytes itemCount headerOf slotOf decode slot logIn okEntry lowest lowestBad cellAt cellBytes cellsOf tableWith apply savedOf play commitsOver entryOf firstPlace ownTests append openFresh playCall readCell audit outcomes report grown isObject isCell isMarked hosted okWrite okWrites okRead okReads okSaved narrow goodAt lookup inOrder store step badFrame objectsIn repeats backsAt check
 later-worked = refl
+
+-- ---- directories
+
+-- the 128 bytes of the eight's directory (1.13), and the shape that they give
+abbrev pub eight : List ℕ
+eight = directoryOf theObjects
+
+pub the-eight : shapeOf eight ≡ depots
+unfolding beAt bytesOf values joined first firstFrom lowest recordAt okRecord atFault shapeOf recordBytes directoryOf
+the-eight = refl
+
+-- maps with the ids 1 to n
+abbrev maps : ℕ → List ℕ
+maps n = directoryOf (values (λ k. record { id = k + 1; kind = aMap; highest = 9; marked = false }) 0 n)
+
+-- registers with these ids
+abbrev registers : List ℕ → List ℕ
+registers is = directoryOf (map (λ i. record { id = i; kind = aRegister; highest = 0; marked = true }) is)
+
+-- the eight's with bytes put over those of record k from its byte i on
+abbrev eightBut : ℕ → ℕ → List ℕ → List ℕ
+eightBut k i bs = splice eight (recordSize * k + i) bs
+
+-- two clinics' directory: a map of the keys to 99, a marked register, and a map of the keys to 4,294,967,294 with the highest id
+abbrev pub clinics : List ℕ
+clinics =
+    0x4F ∷ 0x42 ∷ 0 ∷ 0 ∷ 0 ∷ 0 ∷ 0 ∷ 0x0A ∷ 0 ∷ 0 ∷ 0 ∷ 0x63 ∷ 1 ∷ 0 ∷ 0 ∷ 0
+    ∷ 0x4F ∷ 0x42 ∷ 0 ∷ 0 ∷ 0 ∷ 0 ∷ 0 ∷ 0x14 ∷ 0 ∷ 0 ∷ 0 ∷ 0 ∷ 2 ∷ 1 ∷ 0 ∷ 0
+    ∷ 0x4F ∷ 0x42 ∷ 0 ∷ 0 ∷ 0x7F ∷ 0xFF ∷ 0xFF ∷ 0xFF ∷ 0xFF ∷ 0xFF ∷ 0xFF ∷ 0xFE ∷ 1 ∷ 0 ∷ 0 ∷ 0 ∷ []
+
+abbrev highestId : ℕ
+highestId = 2147483647
+
+-- an update of the clinics' last map
+abbrev toLast : List Request
+toLast = update 0 (put highestId 4294967294 5 ++ put 10 99 6) ∷ []
+
+abbrev pub handedOver : List Row
+handedOver =
+    -- the eight's directory, cut, and with a byte more
+    faulty eight none
+    ∷ faulty [] (some 0)
+    ∷ faulty (take 5 eight) (some 0)
+    ∷ faulty (take 127 eight) (some 7)
+    ∷ faulty (eight ++ 0x4F ∷ []) (some 8)
+    -- 64 records and more
+    ∷ faulty (maps 64) none
+    ∷ faulty (maps 65) (some 64)
+    ∷ faulty (maps 64 ++ 0x4F ∷ []) (some 64)
+    -- ids out of order, twice, 0, and of 32 bits; the later place is at fault, and the first that is
+    ∷ faulty (registers (3 ∷ 5 ∷ [])) none
+    ∷ faulty (registers (5 ∷ 3 ∷ [])) (some 1)
+    ∷ faulty (registers (5 ∷ 5 ∷ [])) (some 1)
+    ∷ faulty (registers (0 ∷ 5 ∷ [])) (some 0)
+    ∷ faulty (registers (5 ∷ 2147483648 ∷ [])) (some 1)
+    ∷ faulty (registers (1 ∷ 2 ∷ 3 ∷ 3 ∷ 5 ∷ 4 ∷ [])) (some 3)
+    -- the mark and the zero bytes
+    ∷ faulty (eightBut 2 0 (0x4E ∷ [])) (some 2)
+    ∷ faulty (eightBut 2 1 (0x43 ∷ [])) (some 2)
+    ∷ faulty (eightBut 2 2 (1 ∷ [])) (some 2)
+    ∷ faulty (eightBut 2 3 (1 ∷ [])) (some 2)
+    ∷ faulty (eightBut 2 14 (1 ∷ [])) (some 2)
+    ∷ faulty (eightBut 7 15 (1 ∷ [])) (some 7)
+    -- a map's highest key: 0, the highest of all, and one more; a register's
+    ∷ faulty (eightBut 0 8 (0 ∷ 0 ∷ 0 ∷ 0 ∷ [])) none
+    ∷ faulty (eightBut 0 8 (0xFF ∷ 0xFF ∷ 0xFF ∷ 0xFE ∷ [])) none
+    ∷ faulty (eightBut 0 8 (0xFF ∷ 0xFF ∷ 0xFF ∷ 0xFF ∷ [])) (some 0)
+    ∷ faulty (eightBut 5 11 (1 ∷ [])) (some 5)
+    -- kinds and marks of other numbers
+    ∷ faulty (eightBut 1 12 (0 ∷ [])) (some 1)
+    ∷ faulty (eightBut 1 12 (3 ∷ [])) (some 1)
+    ∷ faulty (eightBut 1 13 (2 ∷ [])) (some 1)
+    -- hosted sets: each place has a bit, and a bit past the last record is bad
+    ∷ opens clinics 4 0
+    ∷ opens clinics 7 0
+    ∷ opens clinics 8 10
+    ∷ opens clinics 9 10
+    ∷ opens clinics 0 10
+    ∷ opens eight 255 0
+    ∷ opens eight 256 10
+    ∷ opens (maps 64) 18446744073709551615 0
+    -- what the directory lists is a cell: ids and keys, and no other
+    ∷ handed clinics [] (update 0 (put highestId 4294967294 5)) 0
+    ∷ handed clinics [] (update 0 (put highestId 4294967295 5)) 3
+    ∷ handed clinics [] (update 0 (put 20 0 5)) 0
+    ∷ handed clinics [] (update 0 (put 20 1 5)) 3
+    ∷ handed clinics [] (update 0 (put 1 0 5)) 3
+    ∷ handed clinics [] (update 0 (put 2147483658 0 5)) 3
+    ∷ handed clinics toLast (saves (at 8 1 0) [] highestId) 10
+    ∷ handed clinics toLast (saves (at 4 1 0) [] highestId) 0
+    -- a log of the eight's objects has none of the clinics'
+    ∷ checked clinics (bench 1) 2 (some 0)
+    ∷ checked eight (bench 1) 0 none
+    -- the last map alone, and an audit of all three
+    ∷ both clinics toLast 4 48 (ends 1 (cell highestId 4294967294 (some 5) 1 ∷ [])) 7 (cell 10 99 (some 6) 1 ∷ cell highestId 4294967294 (some 5) 1 ∷ [])
+    -- opened at a checkpoint of it
+    ∷ opensAt clinics (toLast ++ (saves (at 4 1 0) [] highestId ∷ [])) 1 (at 4 2 0)
+    -- the words of its headers, of both formats
+    ∷ headed 0 highestId [] (0x7F ∷ 0xFF ∷ 0xFF ∷ 0xFF ∷ 0 ∷ 0 ∷ 0 ∷ 0 ∷ 0 ∷ 0 ∷ 0 ∷ 0 ∷ [])
+    ∷ headed 65536 highestId (0 ∷ []) (0xFF ∷ 0xFF ∷ 0xFF ∷ 0xFF ∷ 0 ∷ 0 ∷ 0 ∷ 0 ∷ 0 ∷ 0 ∷ 0 ∷ 0 ∷ [])
+    -- 15 is ahead of all in every call, and the items are none
+    ∷ judged (take 127 eight) (15 ∷ 15 ∷ 15 ∷ 0 ∷ 15 ∷ 15 ∷ 15 ∷ 15 ∷ 15 ∷ 15 ∷ 15 ∷ 15 ∷ 15 ∷ 15 ∷ 15 ∷ [])
+    ∷ judged eight (1 ∷ 1 ∷ 1 ∷ 0 ∷ 1 ∷ 1 ∷ 1 ∷ 1 ∷ 1 ∷ 1 ∷ 10 ∷ 1 ∷ 1 ∷ 10 ∷ 1 ∷ [])
+    ∷ []
+
+pub handed-over : all rowHolds handedOver ≡ true
+unfolding rowHolds beAt bytesOf splice values joined first firstFrom picks eqList writesOf stamps astray closed decided headerObjects earlier writeBytes writeAt readBytes readAt savedBytes savedAt itemBytes itemCount headerOf slotOf decode slot logIn okEntry lowest lowestBad recordAt okRecord atFault shapeOf recordBytes directoryOf cellAt cellBytes cellsOf tableWith apply savedOf play commitsOver entryOf firstPlace ownTests append openFresh openAt playCall readCell audit grown isObject isCell isMarked hosted okWrite okWrites okRead okReads okSaved narrow goodAt lookup inOrder store step badFrame objectsIn repeats check owed entryCall infoIn itemList streamNext streamList offsetsOf
+handed-over = refl
