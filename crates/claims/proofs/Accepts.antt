@@ -22,7 +22,7 @@ use Rattle.model.specs.Append.{Replica, Request, update, commits, decides, save
 use Rattle.model.specs.Histories.{Lent, inLog, isRefused, Accepted}
 use Rattle.model.specs.Terms.{SetAside, Committed, UpdateAllowed, CommitAsked, CommitAllowed, DecisionAllowed, CheckpointAllowed, Allowed, Unstopped}
 use Rattle.model.specs.Claims.{AcceptsExactly}
-use Rattle.laws.proofs.Directory.{hosted-listed}
+use Rattle.laws.proofs.Directory.{hosted-listed, set-words, words-set}
 use Rattle.laws.proofs.Sizes.{layout, slots-fit, slots-free}
 use Rattle.laws.proofs.Refusals.{AllPass, all-pass, refuse-none, refuseAt-none, not-none, good-below, below-good}
 use Rattle.laws.proofs.Appends.{has-room, passed, wrote}
@@ -202,12 +202,13 @@ module _ (sh : Shape) (log : Log) where
   checkpoint-words : (r : Replica) (table : List ℕ) (o : ℕ) → AllPass (ownTests sh log (saves r table o)) → CheckpointAllowed sh log r table o
   unfolding ownTests
   checkpoint-words r table o t =
-      let record-ok : badReplica (log .tail) r table ≡ false = refuse-none 10 _ (t .0) in
+      let record-ok : badReplica sh (log .tail) r table ≡ false = refuse-none 10 _ (t .0) in
       let given : (isObject sh o && mem o (hosted sh (r .hosting)) && all (okSaved sh (log .tail) o) (savedGiven r table o)) ≡ true = not-false _ (refuse-none 3 _ (t .1 .0)) in
       let up : r .position ≤ log .tail = ltb-false (log .tail) (r .position) (search (ors, record-ok)) in
       let down : log .tail ≤ r .position = ltb-false (r .position) (log .tail) (refuse-none 14 _ (t .1 .1 .0)) in
       record {
-        hosting = eqb-false (r .hosting) 0 (search (ors, record-ok));
+        hosting = set-words sh (r .hosting) (search (ors, record-ok)) .0;
+        listed = set-words sh (r .hosting) (search (ors, record-ok)) .1;
         counted = ltb-false (capacity table) (r .count) (search (ors, record-ok));
         ordered = order-words (cellsOf table (r .count)) (not-false (inOrder (cellsOf table (r .count))) (search (ors, record-ok)));
         there = omega arith;
@@ -226,9 +227,9 @@ module _ (sh : Shape) (log : Log) where
       cells : List Cell
       cells = cellsOf table (r .count)
 
-      record-ok : badReplica (log .tail) r table ≡ false
+      record-ok : badReplica sh (log .tail) r table ≡ false
       record-ok =
-          neither (neither (neither (ne-eqb (r .hosting) 0 (a .hosting)) (le-ltb (capacity table) (r .count) (a .counted)))
+          neither (neither (neither (words-set sh (r .hosting) (a .hosting) (a .listed)) (le-ltb (capacity table) (r .count) (a .counted)))
           (ap not (words-order cells (a .ordered))))
           (le-ltb (log .tail) (r .position) (omega (arith, a .there)))
 
@@ -261,10 +262,11 @@ module _ (sh : Shape) (shape : okShape sh ≡ true) (l : Lent) (q : Request) whe
   accepted-words taken =
       let t = all-pass (frameAndEntries sh (inLog sh l) ++ ownTests sh (inLog sh l) q) (passed sh (l .bytes) (l .tail) q taken) in
       record {
-        framed = frame-words sh l (refuse-none 1 (badFrame sh.layout (inLog sh l)) (t .0));
-        good = good-below sh (inLog sh l) (refuseAt-none 2 (lowestBad sh (inLog sh l)) (t .1 .0));
-        free = slots-fit (sh .layout .slotSize) (l .tail) (length (l .bytes)) (has-room sh (inLog sh l) q (t .1 .1));
-        allowed = own-words sh (inLog sh l) q (t .1 .1);
+        directed = refuseAt-none 15 (sh .fault) (t .0);
+        framed = frame-words sh l (refuse-none 1 (badFrame sh.layout (inLog sh l)) (t .1 .0));
+        good = good-below sh (inLog sh l) (refuseAt-none 2 (lowestBad sh (inLog sh l)) (t .1 .1 .0));
+        free = slots-fit (sh .layout .slotSize) (l .tail) (length (l .bytes)) (has-room sh (inLog sh l) q (t .1 .1 .1));
+        allowed = own-words sh (inLog sh l) q (t .1 .1 .1);
       }
 
   words-accepted : Unstopped sh l q → Accepted sh l q
@@ -273,7 +275,7 @@ module _ (sh : Shape) (shape : okShape sh ≡ true) (l : Lent) (q : Request) whe
       let good : lowestBad sh (inLog sh l) ≡ none = below-good sh (inLog sh l) (u .good) in
       let free : l .tail < length (l .bytes) / sh .layout .slotSize = slots-free (sh .layout .slotSize) (l .tail) (length (l .bytes)) (omega (arith, layout sh shape .room)) (u .free) in
       let t : appendRefusal sh (inLog sh l) q ≡ none = pass-all (frameAndEntries sh (inLog sh l) ++ ownTests sh (inLog sh l) q)
-      (passing 1 (badFrame sh.layout (inLog sh l)) (words-frame sh shape l (u .framed)), (ap (refuseAt 2) good, words-own sh (inLog sh l) q (u .allowed) free)) in
+      (ap (refuseAt 15) (u .directed), (passing 1 (badFrame sh.layout (inLog sh l)) (words-frame sh shape l (u .framed)), (ap (refuseAt 2) good, words-own sh (inLog sh l) q (u .allowed) free))) in
       ap (λ a. isRefused (a .newTail)) (wrote sh (l .bytes) (l .tail) q t)
 
 pub accepts-exactly : (sh : Shape) → okShape sh ≡ true → AcceptsExactly sh

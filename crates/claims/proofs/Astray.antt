@@ -36,9 +36,9 @@ abbrev telling : ℕ → Refusal
 telling i = record { number = 16; told = some i }
 
 -- the tests of a commit, from what each finds
-abbrev tests : Bool → Option ℕ → Bool → Bool → Bool → Option ℕ → Bool → Option Refusal
-tests frame bad given old none-there found full =
-    firstOf (refuse 1 frame ∷ refuseAt 2 bad ∷ refuse 3 given ∷ refuse 4 old ∷ refuse 6 none-there ∷ refuseAt 16 found ∷ refuse 9 full ∷ [])
+abbrev tests : Option ℕ → Bool → Option ℕ → Bool → Bool → Bool → Option ℕ → Bool → Option Refusal
+tests fault frame bad given old none-there found full =
+    firstOf (refuseAt 15 fault ∷ refuse 1 frame ∷ refuseAt 2 bad ∷ refuse 3 given ∷ refuse 4 old ∷ refuse 6 none-there ∷ refuseAt 16 found ∷ refuse 9 full ∷ [])
 
 abbrev numberIn : Option Refusal → ℕ
 numberIn x = ifSome x 0 (λ r. r .number)
@@ -47,7 +47,8 @@ abbrev toldIn : Option Refusal → Option ℕ
 toldIn x = ifSome x none (λ r. r .told)
 
 -- what was found where the answer is 16
-record Found (frame : Bool) (bad : Option ℕ) (given old none-there : Bool) (found : Option ℕ) (i : ℕ) : Type 0 where
+record Found (fault : Option ℕ) (frame : Bool) (bad : Option ℕ) (given old none-there : Bool) (found : Option ℕ) (i : ℕ) : Type 0 where
+  directed : fault ≡ none
   framed : frame ≡ false
   good : bad ≡ none
   asked : given ≡ false
@@ -55,21 +56,22 @@ record Found (frame : Bool) (bad : Option ℕ) (given old none-there : Bool) (fo
   updated : none-there ≡ false
   astray-at : found ≡ some i
 
-sixteen : (frame : Bool) (bad : Option ℕ) (given old none-there : Bool) (found : Option ℕ) (full : Bool) (i : ℕ)
-    → tests frame bad given old none-there found full ≡ some (telling i) → Found frame bad given old none-there found i
-sixteen true b g o n f l i e = let z : _≡_ {A = ℕ} 1 16 = ap numberIn e in absurd (omega arith)
-sixteen false (some p) g o n f l i e = let z : _≡_ {A = ℕ} 2 16 = ap numberIn e in absurd (omega arith)
-sixteen false none true o n f l i e = let z : _≡_ {A = ℕ} 3 16 = ap numberIn e in absurd (omega arith)
-sixteen false none false true n f l i e = let z : _≡_ {A = ℕ} 4 16 = ap numberIn e in absurd (omega arith)
-sixteen false none false false true f l i e = let z : _≡_ {A = ℕ} 6 16 = ap numberIn e in absurd (omega arith)
-sixteen false none false false false none true i e = let z : _≡_ {A = ℕ} 9 16 = ap numberIn e in absurd (omega arith)
-sixteen false none false false false none false i e = not-none (telling i) (sym e)
-sixteen false none false false false (some j) l i e =
-    record { framed = refl; good = refl; asked = refl; still-open = refl; updated = refl; astray-at = ap toldIn e }
+sixteen : (fault : Option ℕ) (frame : Bool) (bad : Option ℕ) (given old none-there : Bool) (found : Option ℕ) (full : Bool) (i : ℕ)
+    → tests fault frame bad given old none-there found full ≡ some (telling i) → Found fault frame bad given old none-there found i
+sixteen (some k) r b g o n f l i e = let z : _≡_ {A = ℕ} 15 16 = ap numberIn e in absurd (omega arith)
+sixteen none true b g o n f l i e = let z : _≡_ {A = ℕ} 1 16 = ap numberIn e in absurd (omega arith)
+sixteen none false (some p) g o n f l i e = let z : _≡_ {A = ℕ} 2 16 = ap numberIn e in absurd (omega arith)
+sixteen none false none true o n f l i e = let z : _≡_ {A = ℕ} 3 16 = ap numberIn e in absurd (omega arith)
+sixteen none false none false true n f l i e = let z : _≡_ {A = ℕ} 4 16 = ap numberIn e in absurd (omega arith)
+sixteen none false none false false true f l i e = let z : _≡_ {A = ℕ} 6 16 = ap numberIn e in absurd (omega arith)
+sixteen none false none false false false none true i e = let z : _≡_ {A = ℕ} 9 16 = ap numberIn e in absurd (omega arith)
+sixteen none false none false false false none false i e = not-none (telling i) (sym e)
+sixteen none false none false false false (some j) l i e =
+    record { directed = refl; framed = refl; good = refl; asked = refl; still-open = refl; updated = refl; astray-at = ap toldIn e }
 
-sixteen-so : (frame : Bool) (bad : Option ℕ) (given old none-there : Bool) (found : Option ℕ) (full : Bool) (i : ℕ)
-    → Found frame bad given old none-there found i → tests frame bad given old none-there found full ≡ some (telling i)
-sixteen-so frame bad given old none-there found full i f = rw (f .framed, f .good, f .asked, f .still-open, f .updated, f .astray-at)
+sixteen-so : (fault : Option ℕ) (frame : Bool) (bad : Option ℕ) (given old none-there : Bool) (found : Option ℕ) (full : Bool) (i : ℕ)
+    → Found fault frame bad given old none-there found i → tests fault frame bad given old none-there found full ≡ some (telling i)
+sixteen-so fault frame bad given old none-there found full i f = rw (f .directed, f .framed, f .good, f .asked, f .still-open, f .updated, f .astray-at)
 
 -- ---- the append's answer is its refusal's
 
@@ -106,10 +108,11 @@ module _ (sh : Shape) (shape : okShape sh ≡ true) (l : Lent) (n : ℕ) (items 
   first-astray : appendTo sh l (commits n items) .newTail ≡ refused (telling i) → FirstAstray sh l n items i
   unfolding ownTests
   first-astray e =
-      let f = sixteen (badFrame sh.layout log) (lowestBad sh log) (badCommit sh log n items) (closed log n (log .tail)) (isEmpty (writesOf log n (log .tail)))
+      let f = sixteen (sh .fault) (badFrame sh.layout log) (lowestBad sh log) (badCommit sh log n items) (closed log n (log .tail)) (isEmpty (writesOf log n (log .tail)))
       (firstPlace (astray log) reads) (leb (slots sh.layout log) (log .tail)) i (refused-so sh l (commits n items) (telling i) e) in
       let a : First (astray log) reads i = place-first (astray log) reads i (f .astray-at) in
       record {
+        directed = f .directed;
         framed = frame-words sh l (f .framed);
         good = good-below sh log (f .good);
         asked = asked-words sh log n items (f .asked) (f .still-open) (f .updated);
@@ -129,7 +132,8 @@ module _ (sh : Shape) (shape : okShape sh ≡ true) (l : Lent) (n : ℕ) (items 
       let hit : astray log (a .read) ≡ true = bad (astray log (a .read)) refl in
       let found : firstPlace (astray log) reads ≡ some i =
       ap (firstPlace (astray log)) (a .reads) ∙ first-place (astray log) (a .before) (a .read) (a .rest) (λ x m. words-pointed log x (a .others x m)) hit ∙ ap some (a .place) in
-      so-refused sh l (commits n items) (telling i) (sixteen-so _ _ _ _ _ _ (leb (slots sh.layout log) (log .tail)) i (record {
+      so-refused sh l (commits n items) (telling i) (sixteen-so _ _ _ _ _ _ _ (leb (slots sh.layout log) (log .tail)) i (record {
+        directed = a .directed;
         framed = words-frame sh shape l (a .framed);
         good = below-good sh log (a .good);
         asked = w .0;

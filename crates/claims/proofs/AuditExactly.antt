@@ -11,10 +11,10 @@ use native.Mathlib.Numerals.{add-one}
 use borrow.Author.Tests.{eqb-true, ltb-true, ltb-false, le-ltb, not-false}
 use lib.Dec.{eqb, ltb}
 use lib.ListN.{length}
-use Rattle.lists.specs.Tests.{ands, clash}
+use Rattle.lists.specs.Tests.{ands, neither, clash}
 use Rattle.lists.specs.First.{first, first-below, first-at}
 use Rattle.lists.specs.Sets.{mem}
-use Rattle.model.specs.Objects.{Object, Shape, ids, isCell, hostedBy, hosted, everyBit, everything}
+use Rattle.model.specs.Objects.{Object, Shape, ids, isCell, hostedBy, hosted, everyBit, everything, badSet}
 use Rattle.model.specs.Entries.{Decision, Entry, plain, numbered, commit, decision, checkpoint, blank, effect, Log, commitIn, ifSome, isNone}
 use Rattle.model.specs.Slot.{logIn, okShape}
 use Rattle.model.specs.Rules.{okEntry, lowest, lowestBad}
@@ -75,14 +75,14 @@ some-object : (sh : Shape) (o : ℕ) → mem o (ids sh) ≡ true → (b : Bool) 
 some-object sh o m true e = clash (mem o (ids sh)) m (ap (mem o) (sym (hosts-all sh) ∙ ap (hosted sh) (eqb-true (everything sh) 0 e) ∙ hosted-none sh))
 some-object sh o m false e = refl
 
-read-all : (sh : Shape) (cells : Holds) (p : ℕ) (scratch : List ℕ) (cs : List Cell) → length cs ≤ capacity scratch → Shown sh (ids sh) cs cells → (o k : ℕ) → isCell sh o k ≡ true
+read-all : (sh : Shape) → sh .fault ≡ none → (cells : Holds) (p : ℕ) (scratch : List ℕ) (cs : List Cell) → length cs ≤ capacity scratch → Shown sh (ids sh) cs cells → (o k : ℕ) → isCell sh o k ≡ true
     → readCell sh (record { hosting = everything sh; position = p; count = length cs }) (tableWith scratch cs) o k ≡ done (cells o k)
 unfolding readCell isCell
-read-all sh cells p scratch cs fits s o k c =
+read-all sh directed cells p scratch cs fits s o k c =
     let m : mem o (ids sh) ≡ true = cell-object (sh .objects) o k c in
     let n : ltb (capacity (tableWith scratch cs)) (length cs) ≡ false = le-ltb (capacity (tableWith scratch cs)) (length cs) (rw (length-with scratch cs fits) fits) in
-    let b : eqb (everything sh) 0 ≡ false = some-object sh o m (eqb (everything sh) 0) refl in
-    rw (b, n, hosts-all sh, m, c, cells-back scratch cs (shown-fits sh (ids sh) cs (s .each)), s .ordered) (ap done (s .reads o k m))
+    let b : badSet sh (everything sh) ≡ false = neither (some-object sh o m (eqb (everything sh) 0) refl) (le-ltb (everything sh) (everything sh) (omega arith)) in
+    rw (b, n, hosts-all sh, m, c, cells-back scratch cs (shown-fits sh (ids sh) cs (s .each)), s .ordered, directed) (ap done (s .reads o k m))
 
 -- ---- the three ends of an audit
 
@@ -172,7 +172,7 @@ module _ (sh : Shape) (shape : okShape sh ≡ true) (h : History) (scratch : Lis
 
   -- ---- which end it is
 
-  module _ (framed : GoodFrame sh (wholeLog sh h)) where
+  module _ (directed : sh .fault ≡ none) (framed : GoodFrame sh (wholeLog sh h)) where
     frame : badFrame sh.layout log ≡ false
     frame = words-frame sh shape (wholeLog sh h) framed
 
@@ -181,7 +181,7 @@ module _ (sh : Shape) (shape : okShape sh ≡ true) (h : History) (scratch : Lis
 
     left-so : audit sh log scratch ≡ auditLeft (everything sh) (log .tail) scratch (lowestFalse sh log room) (auditPlay sh log room (log .tail))
     unfolding audit
-    left-so = rw (frame, good)
+    left-so = rw (frame, good, directed)
 
     module _ (ended : isGoing (auditPlay sh log room (log .tail)) ≡ true) where
       obeys : (d : ℕ) (r : Decision) → d < log .tail → log .entry d ≡ decision r → okEntry sh log d (decision r) ≡ true
@@ -246,7 +246,7 @@ module _ (sh : Shape) (shape : okShape sh ≡ true) (h : History) (scratch : Lis
     unfolding logIn
     standing f (going cs) j n s = record {
       stands = λ r. refl;
-      shows = λ r o k c. rw (same (log .tail) (omega arith)) (read-all sh (run log (log .tail) .cells) (log .tail) scratch cs n s o k c);
+      shows = λ r o k c. rw (same (log .tail) (omega arith)) (read-all sh directed (run log (log .tail) .cells) (log .tail) scratch cs n s o k c);
       counts = λ r. cells-all cs s;
     }
     standing f (lacks q cs) j n (l, s, m) =
@@ -263,4 +263,4 @@ module _ (sh : Shape) (shape : okShape sh ≡ true) (h : History) (scratch : Lis
         rw left-so (record { passes = passes _ v; tells = tells _ v; lacks = lacking _ v; stands = s .stands; shows = s .shows; counts = s .counts })
 
 pub audits-exactly : (sh : Shape) → okShape sh ≡ true → AuditsExactly sh
-audits-exactly sh shape h scratch framed = exactly sh shape h scratch framed
+audits-exactly sh shape h scratch directed framed = exactly sh shape h scratch directed framed

@@ -37,6 +37,7 @@ isGoing (waits q cs) = false
 isGoing (lacks q cs) = false
 
 pub record Sound (sh : Shape) (log : Log) (room : ℕ) : Type 0 where
+  pub directed : sh .fault ≡ none
   pub frame : badFrame sh.layout log ≡ false
   pub good : lowestBad sh log ≡ none
   pub ended : isGoing (auditPlay sh log room (log .tail)) ≡ true
@@ -59,8 +60,9 @@ audit-passed sh log scratch h =
     go none none (going cs) i j k e =
         let tests = all-pass (frameAndEntries sh log) i in
         record {
-          frame = refuse-none 1 (badFrame sh.layout log) (tests .0);
-          good = refuseAt-none 2 (lowestBad sh log) (tests .1 .0);
+          directed = refuseAt-none 15 (sh .fault) (tests .0);
+          frame = refuse-none 1 (badFrame sh.layout log) (tests .1 .0);
+          good = refuseAt-none 2 (lowestBad sh log) (tests .1 .1 .0);
           ended = ap isGoing k;
           told = λ d l. not-false _ (lowest-none (λ d. not (asPlayed sh log room d (log .entry d))) (log .tail) j d l);
         }

@@ -10,11 +10,11 @@ use borrow.Author.Tests.{eqb-true, le-ltb}
 use lib.Dec.{eqb}
 use Rattle.lists.specs.Tests.{and-l, neither, clash}
 use Rattle.lists.specs.Sets.{mem}
-use Rattle.model.specs.Objects.{Shape, isCell, hosted}
+use Rattle.model.specs.Objects.{Shape, isCell, hosted, everything}
 use Rattle.model.specs.Entries.{Read, Held, Condition, Log}
 use Rattle.model.specs.Slot.{logIn, okShape}
 use Rattle.model.specs.Table.{cellsOf, capacity, lookup, versionIn}
-use Rattle.model.specs.Answers.{done, refuse, firstOf, answer}
+use Rattle.model.specs.Answers.{done, refuse, refuseAt, firstOf, answer}
 use Rattle.model.specs.Append.{Request, commits, conditionGiven, badRecord}
 use Rattle.model.specs.Replica.{plainly, readCell}
 use Rattle.model.specs.Run.{current}
@@ -36,10 +36,11 @@ use Rattle.claims.proofs.Leaves.{words-replica, words-stop, play-leaves
 -- ---- cell reading
 
 -- an answer that is done passed its tests
-told : {A : Type 0} (a b : Bool) (x y : A) → answer (firstOf (refuse 10 a ∷ refuse 3 (not b) ∷ [])) x ≡ done y → (b ≡ true) × (x ≡ y)
-told true b x y e = clash true refl (ap isRefused e)
-told false false x y e = clash true refl (ap isRefused e)
-told false true x y e = (refl, cc)
+told : {A : Type 0} (f : Option ℕ) (a b : Bool) (x y : A) → answer (firstOf (refuseAt 15 f ∷ refuse 10 a ∷ refuse 3 (not b) ∷ [])) x ≡ done y → (b ≡ true) × (x ≡ y)
+told (some k) a b x y e = clash true refl (ap isRefused e)
+told none true b x y e = clash true refl (ap isRefused e)
+told none false false x y e = clash true refl (ap isRefused e)
+told none false true x y e = (refl, cc)
 
 module _ (sh : Shape) (whole : Log) (r : Carried) (good : Good sh whole r) where
   -- a replica that hosts an object has a hosted set
@@ -52,14 +53,14 @@ module _ (sh : Shape) (whole : Log) (r : Carried) (good : Good sh whole r) where
   read-done : (o k : ℕ) → mem o (hosts sh r) ≡ true → isCell sh o k ≡ true → shown sh r o k ≡ done (run whole (r .replica .position) .cells o k)
   unfolding readCell
   read-done o k m c =
-      let b : badRecord (r .replica) (r .table) ≡ false = neither (neither (some-set o m (eqb (r .replica .hosting) 0) refl) (le-ltb (capacity (r .table)) (r .replica .count) (good .fits)))
+      let b : badRecord sh (r .replica) (r .table) ≡ false = neither (neither (neither (some-set o m (eqb (r .replica .hosting) 0) refl) (le-ltb (everything sh) (r .replica .hosting) (good .listed))) (le-ltb (capacity (r .table)) (r .replica .count) (good .fits)))
       (ap not (good .inv .ordered)) in
-      rw (b, m, c) (ap done (good .inv .reads o k m))
+      rw (b, m, c, good .directed) (ap done (good .inv .reads o k m))
 
   pub read-back : (o k : ℕ) (held : Option Held) → shown sh r o k ≡ done held → run whole (r .replica .position) .cells o k ≡ held
   unfolding readCell
   read-back o k held e =
-      let t = told (badRecord (r .replica) (r .table)) (mem o (hosts sh r) && isCell sh o k) (lookup (cellsOf (r .table) (r .replica .count)) o k) held e in
+      let t = told (sh .fault) (badRecord sh (r .replica) (r .table)) (mem o (hosts sh r) && isCell sh o k) (lookup (cellsOf (r .table) (r .replica .count)) o k) held e in
       sym (good .inv .reads o k (and-l (mem o (hosts sh r)) (isCell sh o k) (t .0))) ∙ t .1
 
 -- ---- the demand
@@ -90,8 +91,9 @@ module _ (sh : Shape) (shape : okShape sh ≡ true) (h : History) (room : ℕ) (
     position = run-at sh shape h (r .replica .position) (g .below)
 
     -- on the log as it stood, a play whose record and stop are fit is refused by nothing
-    fit-playable : (p : Play) → Fit (stood sh h (p .stoodAfter) .tail) r (p .stop) → Playable sh (stood sh h (p .stoodAfter)) r (p .stop)
+    fit-playable : (p : Play) → Fit sh (stood sh h (p .stoodAfter) .tail) r (p .stop) → Playable sh (stood sh h (p .stoodAfter)) r (p .stop)
     fit-playable p f = record {
+      directed = sound .directed;
       framed = frame-words sh (stood sh h (p .stoodAfter)) (was (p .stoodAfter) .frame);
       good = good-below sh (at sh h p) (was (p .stoodAfter) .good);
       fit = f;
@@ -102,8 +104,8 @@ module _ (sh : Shape) (shape : okShape sh ≡ true) (h : History) (room : ℕ) (
     unfolding logIn
     lacking p e =
         let l : Lent = stood sh h (p .stoodAfter) in
-        let f : Fit (l .tail) r (p .stop) = answered sh shape l r (p .stop) 13 (omega arith) e .fit in
-        let k = play-lacking sh shape (whole sh h) (at sh h p) (was (p .stoodAfter)) r (p .stop) g (words-replica (l .tail) r (p .stop) f, words-stop (l .tail) r (p .stop) f) e in
+        let f : Fit sh (l .tail) r (p .stop) = answered sh shape l r (p .stop) 13 (omega arith) (omega arith) e .fit in
+        let k = play-lacking sh shape (whole sh h) (at sh h p) (was (p .stoodAfter)) r (p .stop) g (words-replica sh (l .tail) r (p .stop) f, words-stop sh (l .tail) r (p .stop) f) e in
         rw (run-at sh shape h (played sh h r p .replica .position + 1) (k .next)) (k .many)
 
     reread : (p : ℕ) (c : Condition) (x : Read) (held : Option Held) → p < wholeLog sh h .tail → current (ranTo sh h p .cells) (c .reads) ≡ true

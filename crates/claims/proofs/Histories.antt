@@ -156,6 +156,7 @@ frame-below ly old new e s l =
 pub record Stood (sh : Shape) (whole log : Log) : Type 0 where
   pub tails : log .tail ≤ whole .tail
   pub agrees : Agree log whole (log .tail)
+  pub directed : sh .fault ≡ none
   pub frame : badFrame sh.layout log ≡ false
   pub good : lowestBad sh log ≡ none
   pub truths : TrueBelow log (log .tail)
@@ -180,6 +181,7 @@ stood-so sh shape h room n sound =
     record {
       tails = up .tails;
       agrees = agrees;
+      directed = sound .directed;
       frame = frame-below sh.layout (inLog sh (stood sh h n)) (inLog sh (wholeLog sh h)) (sound .frame) (up .size) (up .tails);
       good = grown-good sh shape start (take n (h .requests)) (empty-good sh shape (h .bytes));
       truths = true-below sh (inLog sh (wholeLog sh h)) (inLog sh (stood sh h n)) (sound .good) (up .tails) agrees (decisions-true sh shape (inLog sh (wholeLog sh h)) room sound);

@@ -2,14 +2,15 @@
 -- its own position leaves; or it is refused and changes nothing. The tests of a play pass exactly where nothing refuses it.
 use Prim.Native.Nat.{ℕ, _+_, _-_, _<_, _≤_}
 use mathlib.Core.Path.{_≡_, refl, ap, sym, _∙_, subst}
+use mathlib.Core.Logic.{_⊎_, inl, inr}
 use mathlib.Core.Bool.{Bool, true, false, not}
 use mathlib.Core.List.{List, [], _∷_, _++_}
 use mathlib.Core.Option.{Option, none, some}
 use native.Mathlib.Omega.{arith}
-use borrow.Author.Tests.{eqb-false, ne-eqb, ltb-false, le-ltb, not-false}
-use lib.Dec.{eqb, ltb}
+use borrow.Author.Tests.{ltb-false, le-ltb, not-false}
+use lib.Dec.{ltb}
 use Rattle.lists.specs.Tests.{ors, neither, clash}
-use Rattle.model.specs.Objects.{Shape}
+use Rattle.model.specs.Objects.{Shape, badSet}
 use Rattle.model.specs.Entries.{Log}
 use Rattle.model.specs.Slot.{logIn, okShape}
 use Rattle.model.specs.Rules.{lowestBad}
@@ -23,6 +24,7 @@ use Rattle.model.specs.Terms.{Fit, Playable, Ended, there, waiting, noRoom}
 use Rattle.model.specs.Claims.{Waiting, doneWith, PlayLeaves}
 use Rattle.model.specs.Worked.{code}
 use Rattle.laws.proofs.Refusals.{not-none, all-pass, refuse-none, refuseAt-none, good-below, below-good}
+use Rattle.laws.proofs.Directory.{set-words, words-set}
 use Rattle.claims.proofs.Terms.{frame-words, words-frame, order-words, words-order}
 use Rattle.claims.proofs.Reached.{standsAt, Reached, play-reached}
 use Rattle.claims.proofs.Waits.{play-waits, play-ends}
@@ -30,24 +32,25 @@ use Rattle.claims.proofs.Rooms.{left-lacks}
 
 -- ---- the record and the stop
 
-pub fit-words : (tail : ℕ) (r : Carried) (stop : ℕ) → badReplica tail (r .replica) (r .table) ≡ false → badStop tail (r .replica) stop ≡ false → Fit tail r stop
-fit-words tail r stop b s =
-    let a : eqb (r .replica .hosting) 0 ≡ false = search ors in
+pub fit-words : (sh : Shape) (tail : ℕ) (r : Carried) (stop : ℕ) → badReplica sh tail (r .replica) (r .table) ≡ false → badStop tail (r .replica) stop ≡ false → Fit sh tail r stop
+fit-words sh tail r stop b s =
+    let a : badSet sh (r .replica .hosting) ≡ false = search ors in
     let c : ltb (capacity (r .table)) (r .replica .count) ≡ false = search ors in
     let o : not (inOrder (cellsOf (r .table) (r .replica .count))) ≡ false = search ors in
     let d : ltb tail stop ≡ false = search ors in
     let e : ltb stop (r .replica .position) ≡ false = search ors in
     record {
-      hosting = eqb-false (r .replica .hosting) 0 a;
+      hosting = set-words sh (r .replica .hosting) a .0;
+      listed = set-words sh (r .replica .hosting) a .1;
       counted = ltb-false (capacity (r .table)) (r .replica .count) c;
       ordered = order-words (cellsOf (r .table) (r .replica .count)) (not-false (inOrder (cellsOf (r .table) (r .replica .count))) o);
       onward = ltb-false stop (r .replica .position) e;
       within = ltb-false tail stop d;
     }
 
-module _ (tail : ℕ) (r : Carried) (stop : ℕ) (f : Fit tail r stop) where
-  pub words-replica : badReplica tail (r .replica) (r .table) ≡ false
-  words-replica = neither (neither (neither (ne-eqb (r .replica .hosting) 0 (f .hosting)) (le-ltb (capacity (r .table)) (r .replica .count) (f .counted)))
+module _ (sh : Shape) (tail : ℕ) (r : Carried) (stop : ℕ) (f : Fit sh tail r stop) where
+  pub words-replica : badReplica sh tail (r .replica) (r .table) ≡ false
+  words-replica = neither (neither (neither (words-set sh (r .replica .hosting) (f .hosting) (f .listed)) (le-ltb (capacity (r .table)) (r .replica .count) (f .counted)))
       (ap not (words-order (cellsOf (r .table) (r .replica .count)) (f .ordered))))
       (le-ltb tail (r .replica .position) (omega (arith, f .onward, f .within)))
 
@@ -61,33 +64,42 @@ numberIn none = 0
 numberIn (some x) = x .number
 
 -- none of its refusals is 12 or 13
-own-number : (a : Bool) (b : Option ℕ) (c d : Bool) (x : Refusal) → firstOf (refuse 1 a ∷ refuseAt 2 b ∷ refuse 10 c ∷ refuse 3 d ∷ []) ≡ some x → x .number < 12
-own-number true b c d x e = let n : 1 ≡ x .number = ap numberIn e in omega arith
-own-number false (some o) c d x e = let n : 2 ≡ x .number = ap numberIn e in omega arith
-own-number false none true d x e = let n : 10 ≡ x .number = ap numberIn e in omega arith
-own-number false none false true x e = let n : 3 ≡ x .number = ap numberIn e in omega arith
-own-number false none false false x e = not-none x (sym e)
+abbrev Apart : Refusal → Type 0
+Apart x = (x .number < 12) ⊎ (14 < x .number)
+
+own-number : (z : Option ℕ) (a : Bool) (b : Option ℕ) (c d : Bool) (x : Refusal) → firstOf (refuseAt 15 z ∷ refuse 1 a ∷ refuseAt 2 b ∷ refuse 10 c ∷ refuse 3 d ∷ []) ≡ some x → Apart x
+own-number (some k) a b c d x e = let n : 15 ≡ x .number = ap numberIn e in inr (omega arith)
+own-number none true b c d x e = let n : 1 ≡ x .number = ap numberIn e in inl (omega arith)
+own-number none false (some o) c d x e = let n : 2 ≡ x .number = ap numberIn e in inl (omega arith)
+own-number none false none true d x e = let n : 10 ≡ x .number = ap numberIn e in inl (omega arith)
+own-number none false none false true x e = let n : 3 ≡ x .number = ap numberIn e in inl (omega arith)
+own-number none false none false false x e = not-none x (sym e)
+
+neither-number : (x : Refusal) → Apart x → (n : ℕ) → 12 ≤ n → n ≤ 14 → x .number ≡ n → ⊥
+neither-number x (inl l) n low high e = absurd (omega arith)
+neither-number x (inr l) n low high e = absurd (omega arith)
 
 module _ (sh : Shape) (shape : okShape sh ≡ true) (l : Lent) (r : Carried) (stop : ℕ) where
   abbrev log : Log
   log = inLog sh l
 
   abbrev tests : List (Option Refusal)
-  tests = frameAndEntries sh log ++ (refuse 10 (badReplica (l .tail) (r .replica) (r .table)) ∷ refuse 3 (badStop (l .tail) (r .replica) stop) ∷ [])
+  tests = frameAndEntries sh log ++ (refuse 10 (badReplica sh (l .tail) (r .replica) (r .table)) ∷ refuse 3 (badStop (l .tail) (r .replica) stop) ∷ [])
 
   pub playable-words : playRefusal sh log (r .replica) (r .table) stop ≡ none → Playable sh l r stop
   unfolding logIn
   playable-words e =
       let pass = all-pass tests e in
       record {
-        framed = frame-words sh l (refuse-none 1 _ (pass .0));
-        good = good-below sh log (refuseAt-none 2 _ (pass .1 .0));
-        fit = fit-words (l .tail) r stop (refuse-none 10 _ (pass .1 .1 .0)) (refuse-none 3 _ (pass .1 .1 .1 .0));
+        directed = refuseAt-none 15 _ (pass .0);
+        framed = frame-words sh l (refuse-none 1 _ (pass .1 .0));
+        good = good-below sh log (refuseAt-none 2 _ (pass .1 .1 .0));
+        fit = fit-words sh (l .tail) r stop (refuse-none 10 _ (pass .1 .1 .1 .0)) (refuse-none 3 _ (pass .1 .1 .1 .1 .0));
       }
 
   pub words-playable : Playable sh l r stop → playRefusal sh log (r .replica) (r .table) stop ≡ none
   unfolding logIn
-  words-playable p = rw (words-frame sh shape l (p .framed), below-good sh log (p .good), words-replica (l .tail) r stop (p .fit), words-stop (l .tail) r stop (p .fit))
+  words-playable p = rw (words-frame sh shape l (p .framed), below-good sh log (p .good), words-replica sh (l .tail) r stop (p .fit), words-stop sh (l .tail) r stop (p .fit), p .directed)
 
   -- what such a play leaves
   pub plays-so : Playable sh l r stop → playOn sh l r stop ≡ leftBy (r .replica .hosting) stop (r .table) (playFrom sh log (r .replica) (r .table) stop)
@@ -120,10 +132,12 @@ module _ (sh : Shape) (shape : okShape sh ≡ true) (l : Lent) (r : Carried) (st
     -- a play to that position is one that nothing refuses
     pub to-there : Playable sh l r (standsAt sh log [] 0 stop from)
     to-there = record {
+      directed = p .directed;
       framed = p .framed;
       good = p .good;
       fit = record {
         hosting = p .fit .hosting;
+        listed = p .fit .listed;
         counted = p .fit .counted;
         ordered = p .fit .ordered;
         onward = reached .from;
@@ -147,10 +161,10 @@ stays-there sh shape l r stop p =
 
 -- ---- a play that is refused
 
-not-ended : (stop : ℕ) (x : Refusal) (r : Replica) (table : List ℕ) → x .number < 12 → Ended stop (record { answer = refused x; replica = r; table = table }) → ⊥
+not-ended : (stop : ℕ) (x : Refusal) (r : Replica) (table : List ℕ) → Apart x → Ended stop (record { answer = refused x; replica = r; table = table }) → ⊥
 not-ended stop x r table l (there e h) = clash true refl (ap isRefused e)
-not-ended stop x r table l (waiting e h) = let n : x .number ≡ 12 = ap code e in omega arith
-not-ended stop x r table l (noRoom e h) = let n : x .number ≡ 13 = ap code e in omega arith
+not-ended stop x r table l (waiting e h) = neither-number x l 12 (omega arith) (omega arith) (ap code e)
+not-ended stop x r table l (noRoom e h) = neither-number x l 13 (omega arith) (omega arith) (ap code e)
 
 pub play-leaves : (sh : Shape) → okShape sh ≡ true → (l : Lent) (r : Carried) (stop : ℕ) → PlayLeaves sh l r stop (playOn sh l r stop)
 unfolding playCall logIn
@@ -169,18 +183,18 @@ play-leaves sh shape l r stop = go (playRefusal sh (inLog sh l) (r .replica) (r 
     go (some x) e =
         let same : playOn sh l r stop ≡ record { answer = refused x; replica = r .replica; table = r .table } =
         ap (playGiven (r .replica) stop (r .table) (playFrom sh (inLog sh l) (r .replica) (r .table) stop)) e in
-        let low : x .number < 12 = own-number (badFrame sh.layout (inLog sh l)) (lowestBad sh (inLog sh l)) (badReplica (l .tail) (r .replica) (r .table)) (badStop (l .tail) (r .replica) stop) x e in
+        let low : Apart x = own-number (sh .fault) (badFrame sh.layout (inLog sh l)) (lowestBad sh (inLog sh l)) (badReplica sh (l .tail) (r .replica) (r .table)) (badStop (l .tail) (r .replica) stop) x e in
         let no : Playable sh l r stop → ⊥ = λ p. not-none x (sym e ∙ words-playable sh shape l r stop p) in
         record {
           ends = ((λ h. absurd (not-ended stop x (r .replica) (r .table) low (subst (Ended stop) same h))), (λ p. absurd (no p)));
           unchanged = λ h. (ap (λ (y : Left). y .replica) same, ap (λ (y : Left). y .table) same);
           stopped = λ p. absurd (no p);
           waits = record {
-            exactly = ((λ h. absurd (let n : x .number ≡ 12 = ap code (ap (λ (y : Left). y .answer) (sym same) ∙ h) in omega arith)), (λ h. absurd (no (h .0))));
+            exactly = ((λ h. absurd (neither-number x low 12 (omega arith) (omega arith) (ap code (ap (λ (y : Left). y .answer) (sym same) ∙ h)))), (λ h. absurd (no (h .0))));
             passes = λ p. absurd (no p);
             notBack = λ p. absurd (no p);
           };
-          lacks = λ h. absurd (let n : x .number ≡ 13 = ap code (ap (λ (y : Left). y .answer) (sym same) ∙ h) in omega arith);
+          lacks = λ h. absurd (neither-number x low 13 (omega arith) (omega arith) (ap code (ap (λ (y : Left). y .answer) (sym same) ∙ h)));
         }
 
 -- what makes a play one that nothing refuses, in other words
@@ -192,14 +206,14 @@ refit a b log set from stop out f g w = record {
 }
 
 -- a play that answers 12 or 13 is one that nothing refuses
-pub answered : (sh : Shape) → okShape sh ≡ true → (l : Lent) (r : Carried) (stop n : ℕ) → 12 ≤ n → playOn sh l r stop .answer ≡ plainly n → Playable sh l r stop
+pub answered : (sh : Shape) → okShape sh ≡ true → (l : Lent) (r : Carried) (stop n : ℕ) → 12 ≤ n → n ≤ 14 → playOn sh l r stop .answer ≡ plainly n → Playable sh l r stop
 unfolding playCall logIn
-answered sh shape l r stop n high h = go (playRefusal sh (inLog sh l) (r .replica) (r .table) stop) refl
+answered sh shape l r stop n low high h = go (playRefusal sh (inLog sh l) (r .replica) (r .table) stop) refl
   where
     go : (x : Option Refusal) → playRefusal sh (inLog sh l) (r .replica) (r .table) stop ≡ x → Playable sh l r stop
     go none e = playable-words sh shape l r stop e
     go (some x) e =
-        let low : x .number < 12 = own-number (badFrame sh.layout (inLog sh l)) (lowestBad sh (inLog sh l)) (badReplica (l .tail) (r .replica) (r .table)) (badStop (l .tail) (r .replica) stop) x e in
+        let apart : Apart x = own-number (sh .fault) (badFrame sh.layout (inLog sh l)) (lowestBad sh (inLog sh l)) (badReplica sh (l .tail) (r .replica) (r .table)) (badStop (l .tail) (r .replica) stop) x e in
         let same : refused x ≡ plainly n =
         sym (ap (λ (y : Option Refusal). playGiven (r .replica) stop (r .table) (playFrom sh (inLog sh l) (r .replica) (r .table) stop) y .answer) e) ∙ h in
-        absurd (let k : x .number ≡ n = ap code same in omega arith)
+        absurd (neither-number x apart n low high (ap code same))

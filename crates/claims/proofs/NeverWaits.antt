@@ -80,11 +80,12 @@ abbrev numberIn : Option Refusal → ℕ
 numberIn none = 0
 numberIn (some r) = r .number
 
--- the refusals of a bad log are 1 and 2
-low : (b : Bool) (x : Option ℕ) → numberIn (firstOf (refuse 1 b ∷ refuseAt 2 x ∷ [])) ≡ 12 → ⊥
-low true x e = omega arith
-low false none e = omega arith
-low false (some o) e = omega arith
+-- the refusals of a faulty directory and a bad log are 15, 1 and 2
+low : (f : Option ℕ) (b : Bool) (x : Option ℕ) → numberIn (firstOf (refuseAt 15 f ∷ refuse 1 b ∷ refuseAt 2 x ∷ [])) ≡ 12 → ⊥
+low (some k) b x e = omega arith
+low none true x e = omega arith
+low none false none e = omega arith
+low none false (some o) e = omega arith
 
 pub never-waits : (sh : Shape) → NeverWaits sh
 unfolding audit
@@ -95,8 +96,8 @@ never-waits sh log scratch h = go (firstOf (frameAndEntries sh log)) (lowestFals
 
     go : (x : Option Refusal) (f : Option ℕ) (p : Played) → firstOf (frameAndEntries sh log) ≡ x → auditPlay sh log room (log .tail) ≡ p
         → auditGiven (everything sh) (log .tail) scratch f p x .answer ≡ plainly 12 → ⊥
-    go (some r) f p i k e = low (badFrame sh.layout log) (lowestBad sh log) (ap numberIn i ∙ ap code e)
+    go (some r) f p i k e = low (sh .fault) (badFrame sh.layout log) (lowestBad sh log) (ap numberIn i ∙ ap code e)
     go none none (going cs) i k e = let n : _≡_ {A = ℕ} 0 12 = ap code e in omega arith
     go none (some o) (going cs) i k e = let n : _≡_ {A = ℕ} 11 12 = ap code e in omega arith
     go none f (lacks q cs) i k e = let n : _≡_ {A = ℕ} 13 12 = ap code e in omega arith
-    go none f (waits q cs) i k e = no-wait sh log room (refuseAt-none 2 (lowestBad sh log) (all-pass (frameAndEntries sh log) i .1 .0)) q cs k
+    go none f (waits q cs) i k e = no-wait sh log room (refuseAt-none 2 (lowestBad sh log) (all-pass (frameAndEntries sh log) i .1 .1 .0)) q cs k

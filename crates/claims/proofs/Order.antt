@@ -13,13 +13,13 @@ use lib.ListN.{length}
 use Rattle.lists.specs.Tests.{ands, or-l, or-r, or-false}
 use Rattle.lists.specs.Rows.{values, joined}
 use Rattle.lists.specs.Sets.{all, mem}
-use Rattle.model.specs.Objects.{Shape, ids, isObject, isCell, hosted, setOf, everything}
+use Rattle.model.specs.Objects.{Shape, ids, isObject, isCell, hosted, setOf, everything, badSet}
 use Rattle.model.specs.Entries.{Entry, plain, numbered, commit, decision, checkpoint, blank, Commit, Log, commitAt, ifSome, isNone}
 use Rattle.model.specs.Slot.{slotOf, logOf, logIn, okShape}
 use Rattle.model.specs.Rules.{lowest, lowestBad, okSaved, okEntry}
 use Rattle.model.specs.Table.{Cell, cellSize, cellsOf, tableWith, capacity, lookup, inOrder, savedOf}
 use Rattle.model.specs.Play.{Played, going, waits, lacks, cellsIn, versionAt, commitsOver, play}
-use Rattle.model.specs.Answers.{Refusal, done, refuse, firstOf, answer, slots, badFrame, frameAndEntries}
+use Rattle.model.specs.Answers.{Refusal, done, refuse, refuseAt, firstOf, answer, slots, badDirectory, badFrame, frameAndEntries}
 use Rattle.model.specs.Append.{Replica, saves, savedGiven, badRecord, entryOf, ownTests, append, appendGiven}
 use Rattle.model.specs.Replica.{Left, leftWith, openFresh, Checkpoint, checkpointIn, openRefusal, openGiven, openAt, badStop, playRefusal, leftBy, playFrom, playCall, readCell, auditPlay, commitsThere, asPlayed, sameSaved, lowestFalse, auditGiven, audit}
 use Rattle.model.specs.Histories.{Lent, inLog, History, stood, Carried, carried, ifOpened, ifFresh, Opening, fresh, atCheckpoint, opened, Play, playOn, played, plays, hosts}
@@ -118,18 +118,18 @@ pub record Same (out last : Left) : Type 0 where
   pub twin : Twin (out .replica .count) (out .table) (last .table)
 
 module _ (ρ : Replica) (t u : List ℕ) (w : Twin (ρ .count) t u) where
-  same-bad : badRecord ρ t ≡ badRecordLast ρ u
-  same-bad =
-      ap₂ (λ (m : ℕ) (b : Bool). eqb (ρ .hosting) 0 || ltb (m / cellSize) (ρ .count) || not b) (size (ρ .count) t u w) (in-order (ρ .count) t u w)
-      ∙ or-false (eqb (ρ .hosting) 0 || ltb (capacity u) (ρ .count))
+  same-bad : (sh : Shape) → badRecord sh ρ t ≡ badRecordLast sh ρ u
+  same-bad sh =
+      ap₂ (λ (m : ℕ) (b : Bool). badSet sh (ρ .hosting) || ltb (m / cellSize) (ρ .count) || not b) (size (ρ .count) t u w) (in-order (ρ .count) t u w)
+      ∙ or-false (badSet sh (ρ .hosting) || ltb (capacity u) (ρ .count))
 
   -- a cell reading
   read-same : (sh : Shape) (o k : ℕ) → readCell sh ρ t o k ≡ readCellLast sh ρ u o k
   unfolding readCell readCellLast
   read-same sh o k =
-      ap₂ (λ (b : Bool) (cs : List Cell). answer (firstOf (refuse 10 b ∷ refuse 3 (not (mem o (hosted sh (ρ .hosting)) && isCell sh o k)) ∷ [])) (lookup cs o k))
-      same-bad (same-cells (ρ .count) t u w)
-      ∙ ap (answer (firstOf (refuse 10 (badRecordLast ρ u) ∷ refuse 3 (not (mem o (hosted sh (ρ .hosting)) && isCell sh o k)) ∷ []))) (lookup-sorted (cellsOf u (ρ .count)) o k)
+      ap₂ (λ (b : Bool) (cs : List Cell). answer (firstOf (badDirectory sh ∷ refuse 10 b ∷ refuse 3 (not (mem o (hosted sh (ρ .hosting)) && isCell sh o k)) ∷ [])) (lookup cs o k))
+      (same-bad sh) (same-cells (ρ .count) t u w)
+      ∙ ap (answer (firstOf (badDirectory sh ∷ refuse 10 (badRecordLast sh ρ u) ∷ refuse 3 (not (mem o (hosted sh (ρ .hosting)) && isCell sh o k)) ∷ []))) (lookup-sorted (cellsOf u (ρ .count)) o k)
 
   -- a checkpoint
   save-same : (sh : Shape) (bytes : List ℕ) (tail o : ℕ) → append sh bytes tail (saves ρ t o) ≡ saveLast sh bytes tail ρ u o
@@ -140,7 +140,7 @@ module _ (ρ : Replica) (t u : List ℕ) (w : Twin (ρ .count) t u) where
       λ i. appendGiven sh.layout bytes (log .tail)
       (slotOf sh.layout log (log .tail) (checkpoint o (cells i)))
       (firstOf (frameAndEntries sh log ++ (
-      refuse 10 (same-bad i || ltb (log .tail) (ρ .position))
+      refuse 10 (same-bad sh i || ltb (log .tail) (ρ .position))
       ∷ refuse 3 (not (isObject sh o && mem o (hosted sh (ρ .hosting)) && all (okSaved sh (log .tail) o) (cells i)))
       ∷ refuse 14 (ltb (ρ .position) (log .tail))
       ∷ refuse 13 (ltb (sh .layout .items) (length (cells i)))
@@ -156,7 +156,7 @@ module _ (ρ : Replica) (t u : List ℕ) (w : Twin (ρ .count) t u) where
 
     refusal-same : playRefusal sh log ρ t stop ≡ playRefusalLast sh log ρ u stop
     refusal-same =
-        ap (λ (b : Bool). firstOf (frameAndEntries sh log ++ (refuse 10 (b || ltb (log .tail) (ρ .position)) ∷ refuse 3 (badStop (log .tail) ρ stop) ∷ []))) same-bad
+        ap (λ (b : Bool). firstOf (frameAndEntries sh log ++ (refuse 10 (b || ltb (log .tail) (ρ .position)) ∷ refuse 3 (badStop (log .tail) ρ stop) ∷ []))) (same-bad sh)
 
     left-same : (x : Played) → ρ .count ≤ length (cellsIn x) → length (cellsIn x) ≤ capacity u → all fitsCell (cellsIn x) ≡ true → inOrder (sorted (cellsIn x)) ≡ true
         → Same (leftBy (ρ .hosting) stop t (sortedIn x)) (leftBy (ρ .hosting) stop u x)
@@ -177,7 +177,7 @@ module _ (ρ : Replica) (t u : List ℕ) (w : Twin (ρ .count) t u) where
     }
 
     tests : List (Option Refusal)
-    tests = frameAndEntries sh log ++ (refuse 10 (badReplicaLast (log .tail) ρ u) ∷ refuse 3 (badStop (log .tail) ρ stop) ∷ [])
+    tests = frameAndEntries sh log ++ (refuse 10 (badReplicaLast sh (log .tail) ρ u) ∷ refuse 3 (badStop (log .tail) ρ stop) ∷ [])
 
     pub play-same : Same (playCall sh log ρ t stop) (playCallLast sh log ρ u stop)
     unfolding playCall playCallLast tests
@@ -186,9 +186,9 @@ module _ (ρ : Replica) (t u : List ℕ) (w : Twin (ρ .count) t u) where
         go : (y : Option Refusal) → playRefusalLast sh log ρ u stop ≡ y → Same (playCall sh log ρ t stop) (playCallLast sh log ρ u stop)
         go none e =
             let pass = all-pass tests e in
-            let frame : badFrame sh.layout log ≡ false = refuse-none 1 _ (pass .0) in
-            let good : lowestBad sh log ≡ none = refuseAt-none 2 _ (pass .1 .0) in
-            let end : badStop (log .tail) ρ stop ≡ false = refuse-none 3 _ (pass .1 .1 .1 .0) in
+            let frame : badFrame sh.layout log ≡ false = refuse-none 1 _ (pass .1 .0) in
+            let good : lowestBad sh log ≡ none = refuseAt-none 2 _ (pass .1 .1 .0) in
+            let end : badStop (log .tail) ρ stop ≡ false = refuse-none 3 _ (pass .1 .1 .1 .1 .0) in
             let to : stop ≤ log .tail = ltb-false (log .tail) stop (or-l (ltb (log .tail) stop) (ltb stop (ρ .position)) end) in
             let on : ρ .position ≤ stop = ltb-false stop (ρ .position) (or-r (ltb (log .tail) stop) (ltb stop (ρ .position)) end) in
             let x : Played = playFromLast sh log ρ u stop in
@@ -214,16 +214,17 @@ pub record Both (r last : Carried) : Type 0 where
   pub replica : r .replica ≡ last .replica
   pub twin : Twin (r .replica .count) (r .table) (last .table)
 
-opened-fresh : (set : ℕ) (table : List ℕ) (r : Carried) → ifFresh table (openFresh set) ≡ some r → Both r r
+opened-fresh : (sh : Shape) (set : ℕ) (table : List ℕ) (r : Carried) → ifFresh table (openFresh sh set) ≡ some r → Both r r
 unfolding openFresh
-opened-fresh set table r e = go (eqb set 0) e
+opened-fresh sh set table r e = go (sh .fault) (badSet sh set) e
   where
     start : Carried
     start = record { replica = record { hosting = set; position = 0; count = 0 }; table = table }
 
-    go : (b : Bool) → ifFresh table (answer (refuse 10 b) (record { hosting = set; position = 0; count = 0 })) ≡ some r → Both r r
-    go true i = not-none r (sym i)
-    go false i = subst (λ x. Both x x) (Option·some-injective start r i) (record { replica = refl; twin = no-rows table })
+    go : (f : Option ℕ) (b : Bool) → ifFresh table (answer (firstOf (refuseAt 15 f ∷ refuse 10 b ∷ [])) (record { hosting = set; position = 0; count = 0 })) ≡ some r → Both r r
+    go (some k) b i = not-none r (sym i)
+    go none true i = not-none r (sym i)
+    go none false i = subst (λ x. Both x x) (Option·some-injective start r i) (record { replica = refl; twin = no-rows table })
 
 module _ (sh : Shape) (shape : okShape sh ≡ true) (log : Log) (o : ℕ) (table : List ℕ) (r : Carried) where
   abbrev openTests : Option Checkpoint → List (Option Refusal)
@@ -243,10 +244,10 @@ module _ (sh : Shape) (shape : okShape sh ≡ true) (log : Log) (o : ℕ) (table
   opened-so (checkpoint ob cs) e (some x) t i = not-none r (sym i)
   opened-so (checkpoint ob cs) e none t i =
       let tests = all-pass (openTests (checkpointIn (checkpoint ob cs))) t in
-      let frame : badFrame sh.layout log ≡ false = refuse-none 1 _ (tests .0) in
-      let good : lowestBad sh log ≡ none = refuseAt-none 2 _ (tests .1 .0) in
-      let l : o < log .tail = leb-false (log .tail) o (or-l (leb (log .tail) o) false (refuse-none 3 _ (tests .1 .1 .0))) in
-      let fit : length (loaded ob cs) ≤ capacity table = ltb-false (capacity table) (length (loaded ob cs)) (refuse-none 13 _ (tests .1 .1 .1 .0)) in
+      let frame : badFrame sh.layout log ≡ false = refuse-none 1 _ (tests .1 .0) in
+      let good : lowestBad sh log ≡ none = refuseAt-none 2 _ (tests .1 .1 .0) in
+      let l : o < log .tail = leb-false (log .tail) o (or-l (leb (log .tail) o) false (refuse-none 3 _ (tests .1 .1 .1 .0))) in
+      let fit : length (loaded ob cs) ≤ capacity table = ltb-false (capacity table) (length (loaded ob cs)) (refuse-none 13 _ (tests .1 .1 .1 .1 .0)) in
       let k : okEntry sh log o (checkpoint ob cs) ≡ true = rw e at (good-kept sh log good o l) in
       let own = loaded-owned ob sh shape o (omega (arith, tail-small sh log frame)) cs (search ands) in
       subst (λ x. Both x x) (Option·some-injective (carried (leftWith (done tt) (setOf sh ob) (o + 1) table (loaded ob cs))) r i)
@@ -258,7 +259,7 @@ module _ (sh : Shape) (shape : okShape sh ≡ true) (log : Log) (o : ℕ) (table
 
 module _ (sh : Shape) (shape : okShape sh ≡ true) (h : History) where
   opened-both : (opening : Opening) (r : Carried) → opened sh h opening ≡ some r → Both r r
-  opened-both (fresh set table) r e = opened-fresh set table r e
+  opened-both (fresh set table) r e = opened-fresh sh set table r e
   opened-both (atCheckpoint n o table) r e = opened-there sh shape (inLog sh (stood sh h n)) o table r e
 
   next-same : (r last : Carried) → Both r last → (p : Play) → Same (played sh h r p) (playedLast sh h last p)
@@ -363,7 +364,7 @@ module _ (table : List ℕ) where
 audit-fits : (sh : Shape) → okShape sh ≡ true → (log : Log) (room : ℕ) → firstOf (frameAndEntries sh log) ≡ none → all fitsCell (cellsIn (auditPlay sh log room (log .tail))) ≡ true
 audit-fits sh shape log room e =
     let pass = all-pass (frameAndEntries sh log) e in
-    fits-play sh shape log (refuse-none 1 _ (pass .0)) (refuseAt-none 2 _ (pass .1 .0)) (ids sh) room 0 [] (log .tail) (omega arith) refl
+    fits-play sh shape log (refuse-none 1 _ (pass .1 .0)) (refuseAt-none 2 _ (pass .1 .1 .0)) (ids sh) room 0 [] (log .tail) (omega arith) refl
 
 pub same-audits : (sh : Shape) → okShape sh ≡ true → SameAudits sh
 unfolding audit auditLast

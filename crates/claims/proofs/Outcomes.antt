@@ -91,7 +91,7 @@ module _ (sh : Shape) (shape : okShape sh ≡ true) (h : History) (p n : ℕ) (c
 -- ---- the outcomes
 
 module _ (sh : Shape) (h : History) (x : Carried) (m n : ℕ) (c : Condition) (shows : Shows sh h x)
-    (fit : Fit (stood sh h m .tail) x (x .replica .position + 1)) (concerns : Concerns (inLog sh (stood sh h m)) (hosts sh x) n (x .replica .position)) where
+    (fit : Fit sh (stood sh h m .tail) x (x .replica .position + 1)) (concerns : Concerns (inLog sh (stood sh h m)) (hosts sh x) n (x .replica .position)) where
   abbrev p : ℕ
   p = x .replica .position
 
@@ -119,7 +119,7 @@ module _ (sh : Shape) (h : History) (x : Carried) (m n : ℕ) (c : Condition) (s
   waits-there : (out .answer ≡ plainly 12) ↔ Blocked (inLog sh (stood sh h m)) (hosts sh x) p
   waits-there = (forth, back ended)
     where
-      w : Waiting (Fit (stood sh h m .tail) x (p + 1)) (inLog sh (stood sh h m)) (hosts sh x) p (p + 1) out
+      w : Waiting (Fit sh (stood sh h m .tail) x (p + 1)) (inLog sh (stood sh h m)) (hosts sh x) p (p + 1) out
       w = shows .waits turn
 
       forth : out .answer ≡ plainly 12 → Blocked (inLog sh (stood sh h m)) (hosts sh x) p

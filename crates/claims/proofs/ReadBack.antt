@@ -160,7 +160,7 @@ module _ (sh : Shape) (shape : okShape sh ≡ true) (l : Lent) (q : Request) (ta
 
     nothing-refuses : entryRefusal sh (inLog sh now) (l .tail) ≡ none
     unfolding logIn
-    nothing-refuses = rw (up .frame, good, lt-leb (now .tail) (l .tail) (omega (arith, tail-after, up .tails)))
+    nothing-refuses = rw (up .frame, good, lt-leb (now .tail) (l .tail) (omega (arith, tail-after, up .tails)), exit .directed)
 
     written : slot sh.layout (inLog sh now .used) (l .tail) ≡ itsSlot
     unfolding logIn

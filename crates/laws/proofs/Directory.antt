@@ -1,18 +1,19 @@
 -- Sets of objects over any directory: the objects of a set ascend and are listed, there are as many as the set has bits, an or of
 -- two sets is their union, and the lowest bit is the first of them. By induction over the directory, a bit for each object.
-use Prim.Native.Nat.{ℕ, zero, suc, _+_, _-_, _*_, _/_, _%_, _≤_, _<_, min}
+use Prim.Native.Nat.{ℕ, zero, suc, _+_, _-_, _*_, _/_, _%_, _^_, _≤_, _<_, min}
 use mathlib.Core.Path.{_≡_, refl, ap, ap₂, sym, _∙_}
 use mathlib.Core.Bool.{Bool, true, false, cond, _||_}
 use mathlib.Core.List.{List, [], _∷_, _++_}
+use native.Mathlib.Nat.{pow-suc}
 use native.Mathlib.Omega.{arith}
-use borrow.Author.Tests.{eqb-true, eqb-false, eq-eqb, ne-eqb, ltb-true, lt-ltb}
+use borrow.Author.Tests.{eqb-true, eqb-false, eq-eqb, ne-eqb, ltb-true, ltb-false, lt-ltb, le-ltb}
 use lib.Bits.{bitAnd, bitOr, and-step, and-self, or-shr, or-mod}
 use lib.Count.{ones, onesIn, ones-step, trailingZeros, under}
 use lib.Dec.{eqb, ltb}
 use lib.ListN.{length, getD}
-use Rattle.lists.specs.Tests.{clash}
+use Rattle.lists.specs.Tests.{clash, or-l, or-r, neither}
 use Rattle.lists.specs.Sets.{mem, isEmpty, ascending, leads, ascends, rest-ascends, first-leads, ascendingSet, ascending-set, mem-append, mem-set, set-same-members}
-use Rattle.model.specs.Objects.{Object, hostedBy, everyBit}
+use Rattle.model.specs.Objects.{Object, Shape, hostedBy, bitOf, everyBit, everything, badSet}
 use Rattle.laws.proofs.Items.{idsOf}
 
 abbrev byId : Object → Object → Bool
@@ -186,3 +187,26 @@ lowest-below (suc w) (b ∷ bs) set h s l = go (set % 2) refl (λ i. lowest-belo
     go : (r : ℕ) → set % 2 ≡ r → (1 ≤ set / 2 → trailingZeros w (set / 2) < length bs) → under r (trailingZeros w (set / 2)) < suc (length bs)
     go zero e ih = let i = ih (omega arith) in omega arith
     go (suc r) e ih = omega arith
+
+-- ---- hosted sets that a record may have
+
+-- all bits together are one less than the next power of two
+pub every-bit : (bs : List Object) → everyBit bs + 1 ≡ 2 ^ length bs
+every-bit [] = refl
+every-bit (b ∷ bs) = let ih = every-bit bs in let p = pow-suc 2 (length bs) in omega arith
+
+pub bit-listed : (bs : List Object) (o : ℕ) → bitOf bs o ≤ everyBit bs
+bit-listed [] o = omega arith
+bit-listed (b ∷ bs) o = go (eqb b.id o) (bit-listed bs o)
+  where
+    go : (t : Bool) → bitOf bs o ≤ everyBit bs → cond t 1 (2 * bitOf bs o) ≤ 1 + 2 * everyBit bs
+    go true ih = omega arith
+    go false ih = omega arith
+
+module _ (sh : Shape) (set : ℕ) where
+  -- a set is taken exactly where it has a bit, and none past the last object's
+  pub set-words : badSet sh set ≡ false → (set ≡ 0 → ⊥) × (set < 2 ^ length (sh .objects))
+  set-words h = (eqb-false set 0 (or-l _ _ h), omega (arith, ltb-false (everything sh) set (or-r (eqb set 0) _ h), every-bit (sh .objects)))
+
+  pub words-set : (set ≡ 0 → ⊥) → set < 2 ^ length (sh .objects) → badSet sh set ≡ false
+  words-set some listed = neither (ne-eqb set 0 some) (le-ltb (everything sh) set (omega (arith, every-bit (sh .objects))))
