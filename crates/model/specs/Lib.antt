@@ -16,6 +16,7 @@ pub mod Terms
 pub mod Claims
 pub mod HeaderClaims
 pub mod ReadClaims
+pub mod DirectoryClaims
 pub mod Report
 pub mod Worked
 pub mod Literal
