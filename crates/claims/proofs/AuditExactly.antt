@@ -5,14 +5,13 @@ use mathlib.Core.Path.{_≡_, refl, ap, sym, _∙_, subst}
 use mathlib.Core.Logic.{_↔_}
 use mathlib.Core.Bool.{Bool, true, false, cond, not}
 use mathlib.Core.List.{List, [], _∷_, map}
-use mathlib.Core.Option.{Option, none, some, Option·some-injective}
+use mathlib.Core.Option.{Option, none, some}
 use native.Mathlib.Omega.{arith}
 use native.Mathlib.Numerals.{add-one}
 use borrow.Author.Tests.{eqb-true, ltb-true, ltb-false, le-ltb, not-false}
 use lib.Dec.{eqb, ltb}
 use lib.ListN.{length}
 use Rattle.lists.specs.Tests.{ands, neither, clash}
-use Rattle.lists.specs.First.{first, first-below, first-at}
 use Rattle.lists.specs.Sets.{mem}
 use Rattle.model.specs.Objects.{Object, Shape, ids, isCell, hostedBy, hosted, everyBit, everything, badSet}
 use Rattle.model.specs.Entries.{Decision, Entry, plain, numbered, commit, decision, checkpoint, blank, effect, Log, commitIn, ifSome, isNone}
@@ -27,7 +26,7 @@ use Rattle.model.specs.Terms.{GoodFrame}
 use Rattle.model.specs.Claims.{Agrees, writtenBy, HasRoom, tellingOf, Audits, AuditsExactly}
 use Rattle.model.specs.Worked.{code}
 use Rattle.laws.proofs.Items.{cell-object}
-use Rattle.laws.proofs.Refusals.{not-none, lowest-none}
+use Rattle.laws.proofs.Refusals.{lowest-none, lowest-some}
 use Rattle.laws.proofs.Tables.{cells-back}
 use Rattle.laws.proofs.Room.{play-fits, length-with}
 use Rattle.laws.proofs.Appends.{good-kept}
@@ -55,19 +54,6 @@ every-hosted (b ∷ bs) =
 pub hosts-all : (sh : Shape) → hosted sh (everything sh) ≡ ids sh
 unfolding hosted
 hosts-all sh = every-hosted (sh .objects)
-
--- ---- the lowest number that passes a test
-
-lowest-some : (f : ℕ → Bool) (n d : ℕ) → lowest f n ≡ some d → (d < n) × (f d ≡ true) × ((e : ℕ) → e < d → f e ≡ false)
-unfolding lowest
-lowest-some f n d e = go (ltb (first f n) n) refl e
-  where
-    go : (b : Bool) → ltb (first f n) n ≡ b → cond b (some (first f n)) none ≡ some d → (d < n) × (f d ≡ true) × ((e : ℕ) → e < d → f e ≡ false)
-    go true i j =
-        let q : first f n ≡ d = Option·some-injective _ _ j in
-        let l : first f n < n = ltb-true (first f n) n i in
-        (omega arith, rw (← q) (first-at f n l), λ e h. first-below f n e (omega arith))
-    go false i j = not-none d (sym j)
 
 -- ---- cell reading of a record that hosts everything
 

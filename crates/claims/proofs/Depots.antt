@@ -52,13 +52,13 @@ pub in-order-depots : LeavesInOrder depots
 in-order-depots = leaves-in-order depots good-shape
 
 pub header-reads-depots : HeaderRead depots
-header-reads-depots = header-reads depots good-shape
+header-reads-depots = header-reads depots refl
 
 pub tells-where-depots : TellsWhere depots
 tells-where-depots = tells-where depots good-shape
 
 pub past-is-bad-depots : PastIsBad depots
-past-is-bad-depots = past-is-bad depots good-shape
+past-is-bad-depots = past-is-bad depots refl
 
 pub tells-astray-depots : TellsAstray depots
 tells-astray-depots = tells-astray depots good-shape

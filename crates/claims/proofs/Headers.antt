@@ -3,6 +3,7 @@
 -- 2 bytes is above the entry's offset.
 use mathlib.Core.Path.{_≡_, refl, ap, ap₂, sym, _∙_}
 use mathlib.Core.Bool.{Bool, true, false, cond, not}
+use mathlib.Core.Option.{none}
 use mathlib.Core.List.{List, [], _∷_, _++_, map, append-assoc}
 use Prim.Native.Nat.{ℕ, zero, suc, _+_, _-_, _*_, _/_, _%_, _^_, _≤_, _<_}
 use native.Mathlib.Nat.{add-zero, add-assoc, le-refl}
@@ -19,7 +20,7 @@ use Rattle.lists.specs.Bytes.{beAt, bytesOf, length-bytesOf, beAt-add, beAt-lt}
 use Rattle.lists.specs.Rows.{values}
 use Rattle.model.specs.Objects.{Shape}
 use Rattle.model.specs.Entries.{Entry, Log, headerObjects, numberOf, earlier}
-use Rattle.model.specs.Slot.{headerOf, slotOf, slot, markOf, itemCount, okShape}
+use Rattle.model.specs.Slot.{headerOf, slotOf, slot, markOf, itemCount, okLayout, okShape}
 use Rattle.model.specs.Rules.{goodAt}
 use Rattle.model.specs.Headers.{BackPointer, nothing, at, past, backBy, formatAt, objectAt, farBacks, backsAt, dueFormat, dueBacks}
 use Rattle.model.specs.HeaderClaims.{headerBegins, ReadsAs, HeaderRead, TellsWhere, PastIsBad}
@@ -34,8 +35,12 @@ use Rattle.laws.proofs.DueBytes.{header-read}
 
 -- ---- a header as it is read
 
-pub header-reads : (sh : Shape) → okShape sh ≡ true → HeaderRead sh
-header-reads sh k p x qs s i bound small below bytes room = header-read sh.layout (layout sh k .pointers-are) p x bound small qs below s i bytes room
+-- a shape of that layout, without objects: what is said of headers' bytes holds of any objects
+abbrev bare : Shape → Shape
+bare sh = record { objects = []; layout = sh .layout; fault = none }
+
+pub header-reads : (sh : Shape) → okLayout sh.layout ≡ true → HeaderRead sh
+header-reads sh k p x qs s i bound small below bytes room = header-read sh.layout (layout (bare sh) k .pointers-are) p x bound small qs below s i bytes room
 
 -- ---- in a good entry
 
@@ -96,11 +101,11 @@ count-le sh log p e =
     (bytesOf 1 (itemCount e) ++ bytesOf 4 (numberOf e) ++ pastNumbers sh.layout log p e) 2 (simp append-assoc) (length-bytesOf 2 (markOf e))
 
 -- no number of 2 bytes in a header that append writes is above p
-made-small : (sh : Shape) → okShape sh ≡ true → (log : Log) (p x n : ℕ) → n < sh .layout .pointers → beAt 2 (headerOf sh.layout log p x) (4 + 2 * n) ≤ p
+made-small : (sh : Shape) → okLayout sh.layout ≡ true → (log : Log) (p x n : ℕ) → n < sh .layout .pointers → beAt 2 (headerOf sh.layout log p x) (4 + 2 * n) ≤ p
 unfolding headerOf
-made-small sh k log p x n l = header-small sh.layout (layout sh k .pointers-are) p x (earlier log x p) n l
+made-small sh k log p x n l = header-small sh.layout (layout (bare sh) k .pointers-are) p x (earlier log x p) n l
 
-pub past-is-bad : (sh : Shape) → okShape sh ≡ true → PastIsBad sh
+pub past-is-bad : (sh : Shape) → okLayout sh.layout ≡ true → PastIsBad sh
 unfolding notPast
 past-is-bad sh k log p j h m = go (goodAt sh log p) refl
   where
@@ -115,7 +120,7 @@ past-is-bad sh k log p j h m = go (goodAt sh log p) refl
         let x : ℕ = getD (headerObjects log p (log .entry p)) j 0 in
         let below : j < length (headerObjects log p (log .entry p)) = omega (arith, ap (λ (t : List ℕ). beAt 1 t 2) e, count-le sh log p (log .entry p)) in
         let there : beAt 2 s (headerBegins sh.layout j + 4 + 2 * n) ≡ beAt 2 (headerOf sh.layout log p x) (4 + 2 * n) =
-        ap₂ (beAt 2) e (add-assoc (headerBegins sh.layout j) 4 (2 * n)) ∙ slot-header-at sh k log p (log .entry p) j (4 + 2 * n) 2 below (omega arith) in
+        ap₂ (beAt 2) e (add-assoc (headerBegins sh.layout j) 4 (2 * n)) ∙ slot-header-at (bare sh) k log p (log .entry p) j (4 + 2 * n) 2 below (omega arith) in
         omega (arith, made-small sh k log p x n l)
 
     go : (b : Bool) → goodAt sh log p ≡ b → b ≡ false

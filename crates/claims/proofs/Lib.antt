@@ -35,4 +35,5 @@ pub mod Demand1
 pub mod Demand2
 pub mod Order
 pub mod Headers
+pub mod Directories
 pub mod Depots
