@@ -12,7 +12,7 @@ use Rattle.model.specs.Claims.{Demand1}
 use Rattle.laws.proofs.Appends.{refused-same}
 use Rattle.claims.proofs.Leaves.{play-leaves}
 
-unchanged : (sh : Shape) (l : Lent) (q : Request) → isRefused (appendTo sh l q .newTail) ≡ true → appendTo sh l q .bytes ≡ l .bytes
+pub unchanged : (sh : Shape) (l : Lent) (q : Request) → isRefused (appendTo sh l q .newTail) ≡ true → appendTo sh l q .bytes ≡ l .bytes
 unchanged sh l q h = go (appendTo sh l q .newTail) refl h
   where
     go : (x : Answer ℕ) → appendTo sh l q .newTail ≡ x → isRefused x ≡ true → appendTo sh l q .bytes ≡ l .bytes

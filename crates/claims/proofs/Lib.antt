@@ -36,4 +36,5 @@ pub mod Demand2
 pub mod Order
 pub mod Headers
 pub mod Directories
+pub mod Handed
 pub mod Depots
