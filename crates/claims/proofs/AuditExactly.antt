@@ -3,7 +3,7 @@
 use Prim.Native.Nat.{ℕ, _+_, _*_, _/_, _%_, _<_, _≤_}
 use mathlib.Core.Path.{_≡_, refl, ap, sym, _∙_, subst}
 use mathlib.Core.Logic.{_↔_}
-use mathlib.Core.Bool.{Bool, true, false, cond, not}
+use mathlib.Core.Bool.{Bool, true, false, not}
 use mathlib.Core.List.{List, [], _∷_, map}
 use mathlib.Core.Option.{Option, none, some}
 use native.Mathlib.Omega.{arith}
@@ -16,7 +16,7 @@ use Rattle.lists.specs.Sets.{mem}
 use Rattle.model.specs.Objects.{Object, Shape, ids, isCell, hostedBy, hosted, everyBit, everything, badSet}
 use Rattle.model.specs.Entries.{Decision, Entry, plain, numbered, commit, decision, checkpoint, blank, effect, Log, commitIn, ifSome, isNone}
 use Rattle.model.specs.Slot.{logIn, okShape}
-use Rattle.model.specs.Rules.{okEntry, lowest, lowestBad}
+use Rattle.model.specs.Rules.{okEntry, lowestBad}
 use Rattle.model.specs.Table.{Cell, Holds, capacity, tableWith}
 use Rattle.model.specs.Play.{Played, going, waits, lacks, cellsIn}
 use Rattle.model.specs.Answers.{Answer, done, refused, badFrame}

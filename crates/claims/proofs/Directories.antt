@@ -1,11 +1,11 @@
 -- Directories in words of their own: a place is not at fault exactly where it has a record of an object that may stand there, a directory
 -- without fault is the bytes of a list within the rules, and one at fault is turned down by every call.
-use Prim.Native.Nat.{ℕ, zero, suc, _+_, _*_, _/_, _^_, _≤_, _<_}
+use Prim.Native.Nat.{ℕ, zero, suc, _+_, _*_, _/_, _^_, _<_}
 use mathlib.Core.Path.{_≡_, refl, ap, sym, _∙_}
 use mathlib.Core.Logic.{_⊎_, inl, inr}
 use mathlib.Core.Bool.{Bool, true, false, cond, not, _&&_, _||_}
 use mathlib.Core.List.{List, [], _∷_, _++_}
-use mathlib.Core.Option.{Option, none, some}
+use mathlib.Core.Option.{Option, some}
 use native.Mathlib.Nat.{zero-add}
 use native.Mathlib.Omega.{arith}
 use borrow.Author.Tests.{eqb-true, eqb-false, eq-eqb, ltb-true, lt-ltb, leb-true, le-leb}
@@ -28,7 +28,7 @@ use Rattle.model.specs.Append.{badRecord, badReplica, entryOf, ownTests, append
 use Rattle.model.specs.Replica.{openFresh, checkpointIn, openGiven, openAt, badStop, playGiven, playFrom, playCall, readCell, auditPlay, lowestFalse, auditGiven, audit}
 use Rattle.model.specs.Table.{cellsOf, capacity, lookup}
 use Rattle.model.specs.Claims.{Bytes}
-use Rattle.model.specs.DirectoryClaims.{KeysAllowed, Listable, IdsAscend, Lists, ReadsBackDirectory, DirectedExactly, GoodPlace, FirstFault, TellsFault, atPlace, TurnsDown, AnswersFault}
+use Rattle.model.specs.DirectoryClaims.{KeysAllowed, Listable, IdsAscend, Lists, ReadsBackDirectory, DirectedExactly, GoodPlace, FirstFault, TellsFault, atPlace, AnswersFault}
 use Rattle.laws.proofs.Refusals.{lowest-some, some-lowest}
 use Rattle.laws.proofs.Stored.{load-part}
 use Rattle.laws.proofs.Records.{okKeys, okListed, Fields, listed-fields, moved, fields-ok, record-listed, record-again, Place, place-words, words-place, Whole, fault-none, placed, all-listed, ids-ascend, reads-back}

@@ -1,9 +1,9 @@
 -- The demands for the bytes of any directory, with no premise: what a call did not refuse had a directory without fault, whose shape is good.
 -- Of a directory at fault the claims hold since every call turns it down. A claim that speaks of no call (`TellsWhere`) or asks for an answer
 -- that is not 15 (`AuditsExactly`, `OpensWherever`) has the premise that there is no fault.
-use Prim.Native.Nat.{ℕ, _+_}
+use Prim.Native.Nat.{ℕ}
 use mathlib.Core.Path.{_≡_, refl, ap, sym, subst, _∙_}
-use mathlib.Core.Bool.{true, false}
+use mathlib.Core.Bool.{true}
 use mathlib.Core.List.{List, [], _∷_}
 use mathlib.Core.Option.{Option, none, some}
 use native.Mathlib.Omega.{arith}
@@ -28,7 +28,7 @@ use Rattle.model.specs.Worked.{code}
 use Rattle.laws.specs.FirstWriting.{sorted, auditPlayLast, lowestFalseLast, auditLast}
 use Rattle.laws.proofs.Refusals.{not-none, below-good}
 use Rattle.laws.proofs.Records.{good-shape}
-use Rattle.claims.specs.Order.{SameCalls, counted, SameAudit, SameAudits, LeavesInOrder}
+use Rattle.claims.specs.Order.{SameCalls, counted, SameAudits, LeavesInOrder}
 use Rattle.claims.proofs.Demand1.{unchanged}
 use Rattle.claims.proofs.Leaves.{play-leaves}
 use Rattle.claims.proofs.Accepts.{accepts-exactly}

@@ -4,8 +4,8 @@ use Prim.Native.Nat.{ℕ, zero, suc, _+_, _-_, _*_, _/_, _^_, _≤_, _<_}
 use mathlib.Core.Path.{_≡_, refl, ap, ap₂, sym, _∙_}
 use mathlib.Core.Bool.{Bool, true, false, cond, not, _&&_, _||_}
 use mathlib.Core.List.{List, [], _∷_, _++_, append-assoc, append-nil}
-use mathlib.Core.Option.{Option, none, some}
-use native.Mathlib.Nat.{add-zero, zero-add}
+use mathlib.Core.Option.{none, some}
+use native.Mathlib.Nat.{add-zero}
 use native.Mathlib.Omega.{arith}
 use borrow.Author.Tests.{eqb-true, eqb-false, eq-eqb, ltb-true, ltb-false, lt-ltb, le-ltb, leb-true, leb-false, lt-leb, not-false}
 use lib.Dec.{eqb, leb, ltb}
@@ -17,7 +17,7 @@ use Rattle.lists.specs.Sets.{all, all-weaken, all-getD, ascending}
 use Rattle.lists.specs.First.{seeking-from}
 use Rattle.lists.specs.Every.{failing, every-all}
 use Rattle.lists.specs.Ascend.{unordered, ascend-all}
-use Rattle.model.specs.Objects.{ObjectKind, aMap, aRegister, Object, theLayout, Shape, okObject, okObjects}
+use Rattle.model.specs.Objects.{ObjectKind, aMap, aRegister, Object, theLayout, okObject}
 use Rattle.model.specs.Slot.{okShape}
 use Rattle.model.specs.Directory.{recordSize, markObject, mostRecords, kindOf, kindByte, markedByte, idAt, recordAt, okKindAndKey, okRecord, follows, atFault, places, shapeOf, recordBytes, directoryOf}
 use Rattle.laws.proofs.Items.{sizes}

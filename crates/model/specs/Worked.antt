@@ -14,7 +14,7 @@ use Rattle.lists.specs.Picks.{picks}
 use Rattle.lists.specs.First.{first, firstFrom}
 use Rattle.lists.specs.Equal.{eqList}
 use Rattle.lists.specs.Sets.{all}
-use Rattle.model.specs.Objects.{Object, ObjectKind, aMap, aRegister, theObjects, theLayout, depots, Shape, everything, isObject, isCell, isMarked, hosted}
+use Rattle.model.specs.Objects.{aMap, aRegister, theObjects, theLayout, depots, Shape, everything, isObject, isCell, isMarked, hosted}
 use Rattle.model.specs.Entries.{checkpoint, Log, writesOf, stamps, astray, closed, decided, headerObjects, numberOf, earlier}
 use Rattle.model.specs.Slot.{headersBegin, headerSize, itemsBegin, distanceTo, headerWith, writeBytes, writeAt, readBytes, readAt, savedBytes, savedAt, itemBytes, itemCount, headerOf, slotOf, decode, slot, logIn, objectsIn}
 use Rattle.model.specs.Headers.{BackPointer, nothing, at as entryAt, past, formatAt, backsAt, dueFormat, dueBacks}
