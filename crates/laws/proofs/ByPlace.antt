@@ -2,21 +2,22 @@
 -- bit of a place says whether its object is in a set.
 use Prim.Native.Nat.{ℕ, zero, suc, _+_, _*_, _/_, _%_, _^_, _≤_, _<_}
 use mathlib.Core.Path.{_≡_, refl, ap, ap₂, sym, _∙_}
-use mathlib.Core.Bool.{Bool, true, false, cond, _&&_, _||_}
+use mathlib.Core.Bool.{Bool, true, false, cond, not, _&&_, _||_}
 use mathlib.Core.List.{List, [], _∷_}
-use native.Mathlib.Nat.{zero-add, pow-succ', div-one, div-div-eq-div-mul}
+use native.Mathlib.Nat.{zero-add, pow-succ', div-one, div-div-eq-div-mul, div-eq-of-lt, le-div-iff-mul-le, pow-le-pow-right}
 use native.Mathlib.Omega.{arith}
-use borrow.Author.Tests.{eqb-true, eqb-false, eq-eqb, ne-eqb, ltb-true, ltb-false}
+use borrow.Author.Tests.{eqb-true, eqb-false, eq-eqb, ne-eqb, ltb-true, ltb-false, le-ltb}
 use lib.Dec.{eqb, leb, ltb}
 use lib.ListN.{length, getD}
 use Rattle.lists.specs.Tests.{and-l, or-false, clash}
 use Rattle.lists.specs.Rows.{values, length-values, getD-values, map-values}
 use Rattle.lists.specs.Sets.{any, mem, ascending, rest-ascends}
-use Rattle.model.specs.Objects.{Object, Shape, ids, isObject, isCell, isMarked, hostedBy, hosted, bitOf, setOf, everything}
-use Rattle.model.specs.Directory.{recordSize, idAt, recordAt, shapeOf}
+use Rattle.model.specs.Objects.{Object, Shape, ids, isObject, isCell, isMarked, hostedBy, hosted, bitOf, setOf, everything, badSet}
+use Rattle.model.specs.Directory.{recordSize, mostRecords, idAt, recordAt, shapeOf}
+use Rattle.laws.specs.Ruled.{Ruled, records, PlaceOf}
 use Rattle.laws.proofs.Items.{idsOf}
-use Rattle.laws.proofs.Directory.{hosted-listed, every-bit}
-use Rattle.laws.proofs.Records.{Whole, placed, count-of, ids-ascend}
+use Rattle.laws.proofs.Directory.{hosted-listed, every-bit, set-words}
+use Rattle.laws.proofs.Records.{Whole, fault-none, placed, count-of, ids-ascend}
 
 abbrev byId : Object → Object → Bool
 byId a b = ltb a.id b.id
@@ -236,3 +237,91 @@ module _ (d : List ℕ) (n : ℕ) (w : Whole d n) where
 
   pub everything-at : everything sh + 1 ≡ 2 ^ n
   everything-at = every-bit (sh .objects) ∙ ap (λ (m : ℕ). 2 ^ m) (how-many d n w)
+
+-- ---- as code asks: the place first, then what stands there
+
+pub whole : {d : List ℕ} → Ruled d → Whole d (records d)
+whole {d} r = fault-none d (r .directed)
+
+module _ {d : List ℕ} (r : Ruled d) where
+  -- a directory has few records, so that a set of them fits 64 bits
+  pub few-records : records d ≤ mostRecords
+  few-records = whole r .few
+
+  pub sets-fit : (set : ℕ) → badSet (shapeOf d) set ≡ false → set < 2 ^ 64
+  sets-fit set e =
+      let more : 2 ^ records d ≤ 2 ^ 64 = pow-le-pow-right (omega arith) few-records in
+      omega (arith, set-words (shapeOf d) set e .1, ap (λ (m : ℕ). 2 ^ m) (how-many d (records d) (whole r)))
+
+  -- a bit past the last record: of fewer than 64 what is left of a shift by their number, of 64 none
+  pub bits-past : (set : ℕ) → ltb (everything (shapeOf d)) set ≡ not (eqb (set / 2 ^ records d) 0)
+  bits-past set = go (ltb (everything (shapeOf d)) set) refl
+    where
+      power : everything (shapeOf d) + 1 ≡ 2 ^ records d
+      power = everything-at d (records d) (whole r)
+
+      some : 1 ≤ 2 ^ records d
+      some = omega (arith, power)
+
+      go : (t : Bool) → ltb (everything (shapeOf d)) set ≡ t → t ≡ not (eqb (set / 2 ^ records d) 0)
+      go true e =
+          let over : 2 ^ records d ≤ set = omega (arith, power, ltb-true (everything (shapeOf d)) set e) in
+          let q : 1 ≤ set / 2 ^ records d = le-div-iff-mul-le {k = 2 ^ records d} {x = 1} {y = set} some .1 (omega arith) in
+          sym (ap not (ne-eqb (set / 2 ^ records d) 0 (λ z. absurd (omega arith))))
+      go false e =
+          let under : set < 2 ^ records d = omega (arith, power, ltb-false (everything (shapeOf d)) set e) in
+          sym (ap not (eq-eqb (set / 2 ^ records d) 0 (div-eq-of-lt under)))
+
+  pub no-bits-past : (set : ℕ) → records d ≡ mostRecords → set < 2 ^ 64 → ltb (everything (shapeOf d)) set ≡ false
+  no-bits-past set e l = le-ltb (everything (shapeOf d)) set (omega (arith, everything-at d (records d) (whole r), ap (λ (m : ℕ). 2 ^ m) e))
+
+  module _ {o k : ℕ} (p : PlaceOf d o k) where
+    nowhere-listed : k ≡ records d → (j : ℕ) → j < records d → idOf d j ≡ o → ⊥
+    nowhere-listed e j h i = clash (isObject (shapeOf d) o) (ap (isObject (shapeOf d)) (sym i) ∙ object-at d (records d) (whole r) j h) (p .nowhere e)
+
+    -- by the place, or past the last
+    by-place {ℓ} : {P : Type ℓ} → (ltb k (records d) ≡ true → k < records d → P) → (ltb k (records d) ≡ false → k ≡ records d → P) → P
+    by-place {P = P} f g = go (ltb k (records d)) refl
+      where
+        go : (t : Bool) → ltb k (records d) ≡ t → P
+        go true e = f e (ltb-true k (records d) e)
+        go false e = g e (omega (arith, p .below, ltb-false k (records d) e))
+
+    pub object-by : isObject (shapeOf d) o ≡ ltb k (records d)
+    object-by = by-place
+        (λ e h. ap (isObject (shapeOf d)) (sym (p .there h)) ∙ object-at d (records d) (whole r) k h ∙ sym e)
+        (λ e q. p .nowhere q ∙ sym e)
+
+    pub cell-by : (key : ℕ) → isCell (shapeOf d) o key ≡ (ltb k (records d) && leb key (highestOf d k))
+    cell-by key = by-place
+        (λ e h. ap (λ (x : ℕ). isCell (shapeOf d) x key) (sym (p .there h)) ∙ cell-at d (records d) (whole r) k h key ∙ sym (ap (λ (t : Bool). t && leb key (highestOf d k)) e))
+        (λ e q. no-cell d (records d) (whole r) o (nowhere-listed q) key ∙ sym (ap (λ (t : Bool). t && leb key (highestOf d k)) e))
+
+    pub marked-by : isMarked (shapeOf d) o ≡ (ltb k (records d) && placed d k .marked)
+    marked-by = by-place
+        (λ e h. ap (isMarked (shapeOf d)) (sym (p .there h)) ∙ marked-at d (records d) (whole r) k h ∙ sym (ap (λ (t : Bool). t && placed d k .marked) e))
+        (λ e q. no-mark d (records d) (whole r) o (nowhere-listed q) ∙ sym (ap (λ (t : Bool). t && placed d k .marked) e))
+
+    pub hosted-by : (set : ℕ) → mem o (hosted (shapeOf d) set) ≡ (ltb k (records d) && eqb (set / 2 ^ k % 2) 1)
+    unfolding hosted isObject
+    hosted-by set = by-place
+        (λ e h. ap (λ (x : ℕ). mem x (hosted (shapeOf d) set)) (sym (p .there h)) ∙ hosted-at d (records d) (whole r) set k h
+        ∙ sym (ap (λ (t : Bool). t && eqb (set / 2 ^ k % 2) 1) e))
+        (λ e q. not-hosted o (shapeOf d .objects) set (p .nowhere q) ∙ sym (ap (λ (t : Bool). t && eqb (set / 2 ^ k % 2) 1) e))
+
+    pub only-by : k < records d → hosted (shapeOf d) (2 ^ k) ≡ o ∷ []
+    only-by h = only-at d (records d) (whole r) k h ∙ ap (λ (x : ℕ). x ∷ []) (p .there h)
+
+    pub set-by : k < records d → setOf (shapeOf d) o ≡ 2 ^ k
+    set-by h = ap (setOf (shapeOf d)) (sym (p .there h)) ∙ set-at d (records d) (whole r) k h
+
+  -- a search found the object, or ended between two places
+  pub found-place : (o k : ℕ) → k < records d → idOf d k ≡ o → PlaceOf d o k
+  found-place o k h e = record { below = omega arith; there = λ l. e; nowhere = λ q. absurd (omega arith) }
+
+  pub no-place : (o k : ℕ) → k ≤ records d → ((j : ℕ) → j < k → idOf d j < o) → (k < records d → o < idOf d k) → PlaceOf d o (records d)
+  no-place o k l low high = record {
+    below = omega arith;
+    there = λ h. absurd (omega arith);
+    nowhere = λ e. no-object d (records d) (whole r) o (none-between d (records d) (whole r) o k l low high);
+  }

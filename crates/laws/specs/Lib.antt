@@ -1,3 +1,4 @@
 pub mod Good
+pub mod Ruled
 pub mod FirstWriting
 pub mod OldTold
