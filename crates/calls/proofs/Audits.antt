@@ -1,6 +1,6 @@
 -- The audit's call: on a log that appends made it answers exactly what the run of those appends says, and on no log does it wait.
 use Prim.Native.Nat.{ℕ}
-use mathlib.Core.Path.{ap, sym, _∙_, subst}
+use mathlib.Core.Path.{refl, ap, sym, _∙_, subst}
 use mathlib.Core.List.{List}
 use Rattle.model.specs.Objects.{depots}
 use Rattle.model.specs.Replica.{Left, audit}
@@ -19,7 +19,7 @@ pub calls-audit : CallsAudit
 calls-audit a c framed =
     let s : List ℕ = scratch c in
     let given : Audits depots (wholeLog depots (history a)) (ranTo depots (history a)) s (audit depots (inLog (wholeLog depots (history a))) s) =
-    audits-depots (history a) s (subst GoodFrame (sym (whole-left a)) framed) in
+    audits-depots (history a) s refl (subst GoodFrame (sym (whole-left a)) framed) in
     let onLog : Audits depots (lastLog a) (ranTo depots (history a)) s (audit depots (inLog (lastLog a)) s) =
     subst (λ (l : Lent). Audits depots l (ranTo depots (history a)) s (audit depots (inLog l) s)) (whole-left a) given in
     let byRun : Audits depots (lastLog a) (ran a) s (audit depots (inLog (lastLog a)) s) =

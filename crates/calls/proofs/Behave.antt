@@ -67,17 +67,17 @@ module _ (a : Appends) where
   module _ (k : Kept) (s : Shows depots h (carry k)) where
     -- ---- the next play
 
-    waits-so : (p : PlayCall a k) → Waiting (Fit (logAfter a (p .stoodAfter) .tail) (carry k) (stopOf (p .on))) (inLog (logAfter a (p .stoodAfter))) (hosts k)
+    waits-so : (p : PlayCall a k) → Waiting (Fit depots (logAfter a (p .stoodAfter) .tail) (carry k) (stopOf (p .on))) (inLog (logAfter a (p .stoodAfter))) (hosts k)
         (k .replica .position) (stopOf (p .on)) (playLeft (p .on))
     waits-so p =
-        subst (Waiting (Fit (logAfter a (p .stoodAfter) .tail) (carry k) (stopOf (p .on))) (inLog (logAfter a (p .stoodAfter))) (hosts k) (k .replica .position) (stopOf (p .on))) (played-so k p)
-        (subst (λ (l : Lent). Waiting (Fit (l .tail) (carry k) (stopOf (p .on))) (inLog l) (hosts k) (k .replica .position) (stopOf (p .on)) (played depots h (carry k) (playOf k p)))
+        subst (Waiting (Fit depots (logAfter a (p .stoodAfter) .tail) (carry k) (stopOf (p .on))) (inLog (logAfter a (p .stoodAfter))) (hosts k) (k .replica .position) (stopOf (p .on))) (played-so k p)
+        (subst (λ (l : Lent). Waiting (Fit depots (l .tail) (carry k) (stopOf (p .on))) (inLog l) (hosts k) (k .replica .position) (stopOf (p .on)) (played depots h (carry k) (playOf k p)))
         (stood-left a (p .stoodAfter)) (s .waits (playOf k p)))
 
-    ends-so : (p : PlayCall a k) → Ended (stopOf (p .on)) (playLeft (p .on)) ↔ Fit (logAfter a (p .stoodAfter) .tail) (carry k) (stopOf (p .on))
+    ends-so : (p : PlayCall a k) → Ended (stopOf (p .on)) (playLeft (p .on)) ↔ Fit depots (logAfter a (p .stoodAfter) .tail) (carry k) (stopOf (p .on))
     ends-so p =
-        subst (λ (out : model.Left). Ended (stopOf (p .on)) out ↔ Fit (logAfter a (p .stoodAfter) .tail) (carry k) (stopOf (p .on))) (played-so k p)
-        (subst (λ (l : Lent). Ended (stopOf (p .on)) (played depots h (carry k) (playOf k p)) ↔ Fit (l .tail) (carry k) (stopOf (p .on))) (stood-left a (p .stoodAfter))
+        subst (λ (out : model.Left). Ended (stopOf (p .on)) out ↔ Fit depots (logAfter a (p .stoodAfter) .tail) (carry k) (stopOf (p .on))) (played-so k p)
+        (subst (λ (l : Lent). Ended (stopOf (p .on)) (played depots h (carry k) (playOf k p)) ↔ Fit depots (l .tail) (carry k) (stopOf (p .on))) (stood-left a (p .stoodAfter))
         (s .ends (playOf k p)))
 
     lacks-so : (p : PlayCall a k) → playLeft (p .on) .answer ≡ model.plainly 13
@@ -116,7 +116,7 @@ module _ (a : Appends) where
   module _ (k : Kept) (pass : (scratch : List ℕ) × Passed depots h scratch) (o : Opening) (r : Carried) (opens : opened depots h o ≡ some r) (ps : List Play) (same : plays depots h r ps ≡ carry k) where
     outcome-so : (p : PlayCall a k) (n : ℕ) (c : Condition) → stopOf (p .on) ≡ k .replica .position + 1
         → inLog (logAfter a (p .stoodAfter)) .entry (k .replica .position) ≡ commits-at n c
-        → Fit (logAfter a (p .stoodAfter) .tail) (carry k) (k .replica .position + 1)
+        → Fit depots (logAfter a (p .stoodAfter) .tail) (carry k) (k .replica .position + 1)
         → Concerns (inLog (logAfter a (p .stoodAfter))) (hosts k) n (k .replica .position)
         → SameOutcome depots (ran a) (logAfter a (p .stoodAfter)) (carry k) n c (playLeft (p .on))
     outcome-so p n c e here fit concerns =
@@ -129,12 +129,12 @@ module _ (a : Appends) where
         (subst (λ (l : Lent). SameOutcome depots (ranTo depots h) l (carry k) n c (playOn depots l (carry k) (k .replica .position + 1))) at
         (demand2-depots .sameOutcomes h (pass .0) (pass .1) o r opens ps m n c (carry k) (sym same)
         (subst (λ (l : Lent). inLog l .entry (k .replica .position) ≡ commits-at n c) (sym at) here)
-        (subst (λ (l : Lent). Fit (l .tail) (carry k) (k .replica .position + 1)) (sym at) fit)
+        (subst (λ (l : Lent). Fit depots (l .tail) (carry k) (k .replica .position + 1)) (sym at) fit)
         (subst (λ (l : Lent). Concerns (inLog l) (hosts k) n (k .replica .position)) (sym at) concerns))))
 
     crosses-so : (p : PlayCall a k) (n : ℕ) (c : Condition) → stopOf (p .on) ≡ k .replica .position + 1
         → inLog (logAfter a (p .stoodAfter)) .entry (k .replica .position) ≡ commits-at n c
-        → Fit (logAfter a (p .stoodAfter) .tail) (carry k) (k .replica .position + 1)
+        → Fit depots (logAfter a (p .stoodAfter) .tail) (carry k) (k .replica .position + 1)
         → Concerns (inLog (logAfter a (p .stoodAfter))) (hosts k) n (k .replica .position)
         → Crosses a k p n c
     crosses-so p n c e here fit concerns =

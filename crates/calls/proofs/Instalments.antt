@@ -11,7 +11,7 @@ use lib.Dec.{eqb, leb}
 use lib.ListN.{length}
 use Rattle.lists.specs.Tests.{ands, ors, neither}
 use Rattle.lists.specs.Sets.{all, meets}
-use Rattle.model.specs.Objects.{depots, hosted}
+use Rattle.model.specs.Objects.{depots, hosted, badSet}
 use Rattle.model.specs.Entries.{Write, Entry, plain, numbered, commit, decision, checkpoint, blank, effect, Log, writesOf, headerObjects}
 use Rattle.model.specs.Slot.{logIn, mostSlots}
 use Rattle.model.specs.Rules.{okWrite, okWrites, okEntry, lowestBad}
@@ -100,10 +100,10 @@ module _ (log : Log) (set : List ℕ) (room : ℕ) where
 -- whether nothing refuses a play
 module _ (log : Log) where
   abbrev tests : Replica → List ℕ → ℕ → List (Option Refusal)
-  tests r t stop = frameAndEntries depots log ++ (refuse 10 (badReplica (log .tail) r t) ∷ refuse 3 (model.badStop (log .tail) r stop) ∷ [])
+  tests r t stop = frameAndEntries depots log ++ (refuse 10 (badReplica depots (log .tail) r t) ∷ refuse 3 (model.badStop (log .tail) r stop) ∷ [])
 
   -- a play that nothing refuses
-  runs : (r : Replica) (t : List ℕ) (stop : ℕ) → badFrame log ≡ false → lowestBad depots log ≡ none → badReplica (log .tail) r t ≡ false
+  runs : (r : Replica) (t : List ℕ) (stop : ℕ) → badFrame log ≡ false → lowestBad depots log ≡ none → badReplica depots (log .tail) r t ≡ false
       → model.badStop (log .tail) r stop ≡ false → model.playCall depots log r t stop ≡ model.leftBy (r .hosting) stop t (model.playFrom depots log r t stop)
   unfolding model.playCall
   runs r t stop f g b c = rw (f, g, b, c)
@@ -145,7 +145,7 @@ module _ (log : Log) where
     abbrev next : Replica
     next = record { hosting = r .hosting; position = at; count = length cells }
 
-    module _ (f : badFrame log ≡ false) (g : lowestBad depots log ≡ none) (c : badReplica (log .tail) r t ≡ false) (d : model.badStop (log .tail) r a ≡ false) where
+    module _ (f : badFrame log ≡ false) (g : lowestBad depots log ≡ none) (c : badReplica depots (log .tail) r t ≡ false) (d : model.badStop (log .tail) r a ≡ false) where
       on : r .position ≤ a
       on = ltb-false a (r .position) (search ors)
 
@@ -192,10 +192,10 @@ module _ (log : Log) where
           ∙ ap (λ (n : ℕ). play depots log set (capacity t) n cells (b - at)) h
 
       -- nothing refuses either of them
-      next-fits : badReplica (log .tail) next (tableWith t cells) ≡ false
+      next-fits : badReplica depots (log .tail) next (tableWith t cells) ≡ false
       next-fits =
           let n : length cells ≤ capacity (tableWith t cells) = omega (arith, few, size) in
-          let some-set : eqb (r .hosting) 0 ≡ false = search ors in
+          let some-set : badSet depots (r .hosting) ≡ false = search ors in
           let order : not (inOrder (cellsOf (tableWith t cells) (length cells))) ≡ false = ap (λ (cs : List Cell). not (inOrder cs)) (cells-back t cells fit) ∙ ap not ordered in
           neither (neither (neither some-set (le-ltb (capacity (tableWith t cells)) (length cells) n)) order) (le-ltb (log .tail) at (omega (arith, before)))
 
@@ -224,7 +224,7 @@ module _ (log : Log) where
             let pass = all-pass (tests r t a) e in
             ap (λ (x : Replica). model.playCall depots log x (model.leftBy (r .hosting) a t first .table) b) (left-at (r .hosting) a t first)
             ∙ ap (λ (x : List ℕ). model.playCall depots log next x b) (left-table (r .hosting) a t first)
-            ∙ goes-on (refuse-none 1 _ (pass .0)) (refuseAt-none 2 _ (pass .1 .0)) (refuse-none 10 _ (pass .1 .1 .0)) (refuse-none 3 _ (pass .1 .1 .1 .0))
+            ∙ goes-on (refuse-none 1 _ (pass .1 .0)) (refuseAt-none 2 _ (pass .1 .1 .0)) (refuse-none 10 _ (pass .1 .1 .1 .0)) (refuse-none 3 _ (pass .1 .1 .1 .1 .0))
 
 -- Instalments of the calls.
 pub calls-instalments : CallsInstalments

@@ -36,12 +36,12 @@ is-opened (opened.Refused y) r e = clash true refl (ap isRefused e)
 
 pub calls-open : CallsOpen
 calls-open = record {
-  fresh = λ c n. is-opened (c .answer) (record { hosted = c .given .0; position = 0; count = 0 }) (fresh-promise c ∙ opens-fresh (c .given .0) n);
+  fresh = λ c n listed. is-opened (c .answer) (record { hosted = c .given .0; position = 0; count = 0 }) (fresh-promise c ∙ opens-fresh depots (c .given .0) .1 (refl, n, listed));
   atCheckpoint = λ log c e.
       let o : ℕ = c .call .given .1 .1 .0 in
       let same = open-promise log c in
       subst (OpenedAt depots (inLog log) o (now (c .call .given .1 .1 .1 .0))) (sym same)
       (opens-at-depots log o (now (c .call .given .1 .1 .1 .0)) (ap (λ (x : Left). x .answer) (sym same) ∙ ap checkedIn e));
   wherever = λ log c x cs framed good below here room.
-      ap (λ (y : Left). y .answer) (open-promise log c) ∙ opens-wherever-depots log (c .call .given .1 .1 .0) (now (c .call .given .1 .1 .1 .0)) x cs framed good below here room;
+      ap (λ (y : Left). y .answer) (open-promise log c) ∙ opens-wherever-depots log (c .call .given .1 .1 .0) (now (c .call .given .1 .1 .1 .0)) x cs refl framed good below here room;
 }

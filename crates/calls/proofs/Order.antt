@@ -10,9 +10,9 @@ use denote.Ref.{now}
 use lib.Dec.{eqb}
 use Rattle.lists.specs.Tests.{clash}
 use Rattle.lists.specs.Rows.{values}
-use Rattle.model.specs.Objects.{depots}
+use Rattle.model.specs.Objects.{depots, badSet}
 use Rattle.model.specs.Table.{cellsOf, tableWith, capacity, inOrder}
-use Rattle.model.specs.Answers.{Refusal, Answer, done, refused, refuse, answer}
+use Rattle.model.specs.Answers.{Refusal, Answer, done, refused, refuse, firstOf, answer}
 use Rattle.model.specs.Append as model-append
 use Rattle.model.specs.Append.{Replica}
 use Rattle.model.specs.Replica.{Left, openFresh, Checkpoint, checkpointIn, openRefusal, openGiven, openAt, playRefusal, playFrom, playGiven, playCall}
@@ -76,9 +76,9 @@ calls-same-audit log c =
 -- ---- replicas
 
 -- what a fresh opening gives
-fresh-so : (set : ℕ) (r : Replica) → openFresh set ≡ done r → r ≡ record { hosting = set; position = 0; count = 0 }
+fresh-so : (set : ℕ) (r : Replica) → openFresh depots set ≡ done r → r ≡ record { hosting = set; position = 0; count = 0 }
 unfolding openFresh
-fresh-so set r e = go (eqb set 0) e
+fresh-so set r e = go (badSet depots set) e
   where
     begins : Replica
     begins = record { hosting = set; position = 0; count = 0 }
@@ -87,7 +87,7 @@ fresh-so set r e = go (eqb set 0) e
     inDone (done x) = x
     inDone (refused x) = r
 
-    go : (b : Bool) → answer (refuse 10 b) begins ≡ done r → r ≡ begins
+    go : (b : Bool) → answer (firstOf (refuse 10 b ∷ [])) begins ≡ done r → r ≡ begins
     go true i = clash true refl (ap isRefused i)
     go false i = sym (ap inDone i)
 

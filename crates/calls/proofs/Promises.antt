@@ -80,5 +80,5 @@ read-promise k o key c =
     ∙ ap (λ (x : ℕ). model-replica.readCell depots (replicaIn (k .replica)) (k .table) x (c .call .given .1 .1 .1 .0)) (c .object)
     ∙ ap (model-replica.readCell depots (replicaIn (k .replica)) (k .table) o) (c .at)
 
-pub fresh-promise : (c : Call fresh-kinds.ps fresh-kinds.r fresh-reads.Learnt) → openedIn (c .answer) ≡ model-replica.openFresh (c .given .0)
+pub fresh-promise : (c : Call fresh-kinds.ps fresh-kinds.r fresh-reads.Learnt) → openedIn (c .answer) ≡ model-replica.openFresh depots (c .given .0)
 fresh-promise c = c .learnt

@@ -18,7 +18,7 @@ use Rattle.model.specs.Append.{commits, conditionGiven}
 use Rattle.model.specs.Replica.{plainly}
 use Rattle.model.specs.Run.{madeAll}
 use Rattle.model.specs.Histories.{Lent, isRefused, cellsWritten}
-use Rattle.model.specs.Terms.{AllGood, Stale, Concerns, Blocked, Fit, Playable, Ended, Makes, Unstopped}
+use Rattle.model.specs.Terms.{Listed, AllGood, Stale, Concerns, Blocked, Fit, Playable, Ended, Makes, Unstopped}
 use Rattle.model.specs.Claims.{Bytes, Waiting, doneWith, kindGiven, NumberGiven, ObjectsGiven, ItemsGiven, headerObjectsIn, Alone, AbortsAlone, Audits, OpenedAt}
 use Rattle.codec.specs.Eight.{slotSize, inLog, GoodFrame}
 use Rattle.answers.specs.declared.Checked.the-variants as checked
@@ -129,7 +129,7 @@ abbrev pub CallsNeverWait : Type 0
 CallsNeverWait = (log : Lent) (c : AuditCall log) → c .call .answer .answer ≡ checked.Refused refusal.Waiting → ⊥
 
 pub record CallsOpen : Type 0 where
-  pub fresh : (c : Call fresh-kinds.ps fresh-kinds.r fresh-reads.Learnt) → (c .given .0 ≡ 0 → ⊥)
+  pub fresh : (c : Call fresh-kinds.ps fresh-kinds.r fresh-reads.Learnt) → (c .given .0 ≡ 0 → ⊥) → Listed depots (c .given .0)
       → (c .answer) ≡ opened.Replica (record { hosted = c .given .0; position = 0; count = 0 })
   pub atCheckpoint : (log : Lent) (c : OpenCall log) → c .call .answer .answer ≡ checked.Done
       → OpenedAt depots (inLog log) (c .call .given .1 .1 .0) (now (c .call .given .1 .1 .1 .0)) (openLeft c)
@@ -155,9 +155,9 @@ pub record Behaves (a : Appends) (k : Kept) : Type 0 where
   pub cells : (o key : ℕ) (c : ReadCall k o key) → mem o (hosts k) ≡ true → isCell depots o key ≡ true
       → readIn (c .call .answer) ≡ done (ran a (k .replica .position) .cells o key)
   pub count : k .replica .count ≡ cellsWritten theObjects (hosts k) (ran a (k .replica .position) .cells)
-  pub waits : (p : PlayCall a k) → Waiting (Fit (logAfter a (p .stoodAfter) .tail) (carry k) (stopOf (p .on))) (inLog (logAfter a (p .stoodAfter))) (hosts k)
+  pub waits : (p : PlayCall a k) → Waiting (Fit depots (logAfter a (p .stoodAfter) .tail) (carry k) (stopOf (p .on))) (inLog (logAfter a (p .stoodAfter))) (hosts k)
       (k .replica .position) (stopOf (p .on)) (playLeft (p .on))
-  pub ends : (p : PlayCall a k) → Ended (stopOf (p .on)) (playLeft (p .on)) ↔ Fit (logAfter a (p .stoodAfter) .tail) (carry k) (stopOf (p .on))
+  pub ends : (p : PlayCall a k) → Ended (stopOf (p .on)) (playLeft (p .on)) ↔ Fit depots (logAfter a (p .stoodAfter) .tail) (carry k) (stopOf (p .on))
   pub lacks : (p : PlayCall a k) → playLeft (p .on) .answer ≡ plainly 13
       → capacity (k .table) < cellsWritten theObjects (hosts k) (ran a (kept (p .on) .replica .position + 1) .cells)
   -- a committed read of an accepted commit, made again at its turn
@@ -169,7 +169,7 @@ pub record Behaves (a : Appends) (k : Kept) : Type 0 where
       → ran a (seen c .tail) .cells x.object x.key ≡ held
   pub outcomes : (p : PlayCall a k) (n : ℕ) (c : Condition) → stopOf (p .on) ≡ k .replica .position + 1
       → inLog (logAfter a (p .stoodAfter)) .entry (k .replica .position) ≡ commits-at n c
-      → Fit (logAfter a (p .stoodAfter) .tail) (carry k) (k .replica .position + 1)
+      → Fit depots (logAfter a (p .stoodAfter) .tail) (carry k) (k .replica .position + 1)
       → Concerns (inLog (logAfter a (p .stoodAfter))) (hosts k) n (k .replica .position)
       → Crosses a k p n c
 

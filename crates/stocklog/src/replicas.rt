@@ -34,7 +34,7 @@ fn of_opened(o: Opened) -> Numbers
 // A replica of a set at offset 0.
 #[no_mangle]
 pub extern "C" fn stocklog_open_fresh(hosted: u8, out: &mut [u64; 4]) -> u32
-    ensures { λ r. ⌜ record { number = r; out = now (out .exit) } ≡ openReply (openFresh hosted) ⌝ }
+    ensures { λ r. ⌜ record { number = r; out = now (out .exit) } ≡ openReply (openFresh depots hosted) ⌝ }
 {
     crate::numbers::put(out, of_opened(replica::opening::open_fresh(hosted)))
 }
