@@ -3,6 +3,7 @@
 use Prim.Native.Nat.{ℕ, zero, suc, _+_, _*_, _/_, _^_}
 use mathlib.Core.Bool.{Bool, true, cond, not, _&&_, _||_}
 use mathlib.Core.List.{List, _++_}
+use mathlib.Core.Option.{Option}
 use lib.Dec.{eqb, leb, ltb}
 use lib.ListN.{length}
 use Rattle.lists.specs.Bytes.{beAt, bytesOf}
@@ -63,13 +64,16 @@ atFault d k = leb mostRecords k || ltb (length d) (recordSize * k + recordSize) 
 abbrev pub places : List ℕ → ℕ
 places d = cond (eqb (length d) 0) 1 ((length d + 15) / recordSize)
 
--- the shape that a directory's bytes give, with its first place at fault (1.12, 1.13)
-unfoldable pub shapeOf : List ℕ → Shape
-shapeOf d = record {
-  objects = values (λ k. recordAt d (recordSize * k)) 0 (length d / recordSize);
-  layout = theLayout;
-  fault = lowest (atFault d) (places d);
-}
+-- the objects that it lists, and its first place at fault (1.12)
+unfoldable pub objectsOf : List ℕ → List Object
+objectsOf d = values (λ k. recordAt d (recordSize * k)) 0 (length d / recordSize)
+
+unfoldable pub faultOf : List ℕ → Option ℕ
+faultOf d = lowest (atFault d) (places d)
+
+-- the shape that a directory's bytes give (1.13)
+abbrev pub shapeOf : List ℕ → Shape
+shapeOf d = record { objects = objectsOf d; layout = theLayout; fault = faultOf d }
 
 -- the bytes of a list of objects
 unfoldable pub recordBytes : Object → List ℕ
