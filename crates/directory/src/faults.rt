@@ -5,7 +5,7 @@ ghost use Prim.Native.Nat.{_+_, _*_, _^_, _≤_};
 ghost use lib.Dec.{eqb, leb, ltb};
 ghost use lib.ListN.{length};
 ghost use Rattle.lists.specs.Bytes.{beAt};
-ghost use Rattle.model.specs.Directory.{recordSize, markObject, okKindAndKey, idAt, okRecord, follows, atFault, places, shapeOf};
+ghost use Rattle.model.specs.Directory.{recordSize, markObject, okKindAndKey, okRecord, follows, atFault, places, shapeOf};
 ghost use Rattle.directory.specs.Faults.{faultIn};
 use crate::layout::HIGHEST_BEGINS;
 use crate::layout::ID_BEGINS;
@@ -21,14 +21,6 @@ use crate::layout::MOST_RECORDS;
 use crate::layout::RECORD_SIZE;
 use crate::layout::REGISTER;
 use crate::layout::ZEROS_BEGIN;
-
-// The id in the record at place k.
-pub fn id_at(dir: &[u8], k: usize) -> u32
-    requires { ⌜ recordSize * k + recordSize ≤ length (now dir) ⌝ }
-    ensures { λ r. ⌜ r ≡ idAt (now (dir .entry)) (recordSize * k) ⌝ }
-{
-    codec::bytes::be32(dir, RECORD_SIZE * k + ID_BEGINS)
-}
 
 // The record at byte i has its mark and its zero bytes.
 fn is_framed(dir: &[u8], i: usize) -> bool
@@ -95,7 +87,7 @@ fn is_above(dir: &[u8], k: usize) -> bool
     if k == 0 {
         return true;
     }
-    id_at(dir, k - 1) < id_at(dir, k)
+    crate::places::id_at(dir, k - 1) < crate::places::id_at(dir, k)
 }
 
 // Place k is at fault.
