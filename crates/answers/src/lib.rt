@@ -1,7 +1,10 @@
 // The answers other than done (13.3), as one enum that every call answers with.
 ghost use mathlib.Core.Path.{_≡_};
-ghost use Rattle.answers.specs.Refusals.{refusalIn, toldIn};
+ghost use Rattle.model.specs.Answers.{answer, badDirectory};
+ghost use Rattle.model.specs.Directory.{shapeOf};
+ghost use Rattle.answers.specs.Refusals.{refusalIn, checkedIn, toldIn};
 use codec::names::Offset;
+use directory::faults::FirstFault;
 
 pub enum Refusal {
     Frame,
@@ -19,6 +22,7 @@ pub enum Refusal {
     NoRoom,
     NoRoomAt(Offset),
     Behind,
+    Directory(u64),
     Astray(u64),
 }
 
@@ -48,6 +52,7 @@ pub fn number_of(r: Refusal) -> u32
         Refusal::NoRoom => 13,
         Refusal::NoRoomAt(_) => 13,
         Refusal::Behind => 14,
+        Refusal::Directory(_) => 15,
         Refusal::Astray(_) => 16,
     }
 }
@@ -77,6 +82,18 @@ pub fn told_of(r: Refusal) -> Told
         Refusal::NoRoom => Told::Nothing,
         Refusal::NoRoomAt(o) => Told::Number(o.0),
         Refusal::Behind => Told::Nothing,
+        Refusal::Directory(k) => Told::Number(k),
         Refusal::Astray(k) => Told::Number(k),
+    }
+}
+
+// The directory is within its rules; else the first place at fault.
+pub fn directed(dir: &[u8]) -> Checked
+    ensures { λ r. ⌜ checkedIn r ≡ answer (badDirectory (shapeOf (now (dir .entry)))) tt ⌝ }
+{
+    let f = directory::faults::fault(dir);
+    match f {
+        FirstFault::None => Checked::Done,
+        FirstFault::At(k) => Checked::Refused(Refusal::Directory(k)),
     }
 }

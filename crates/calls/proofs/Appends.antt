@@ -4,18 +4,18 @@ use Prim.Native.Nat.{ℕ, _+_, _*_}
 use mathlib.Core.Path.{_≡_, refl, ap, sym, _∙_, subst}
 use mathlib.Core.Bool.{Bool, true, false}
 use mathlib.Core.List.{List, [], _∷_}
-use mathlib.Core.Option.{Option, none}
+use mathlib.Core.Option.{Option, none, some}
 use native.Mathlib.Omega.{arith}
 use lib.ListN.{length, take, drop}
 use Rattle.lists.specs.Tests.{clash}
-use Rattle.model.specs.Objects.{depots}
+use Rattle.model.specs.Directory.{shapeOf}
 use Rattle.model.specs.Rules.{lowestBad}
 use Rattle.model.specs.Answers.{Answer, done, refused, refuse, refuseAt, firstOf, answer}
 use Rattle.model.specs.Reading as reading
 use Rattle.model.specs.Append as model
 use Rattle.model.specs.Histories.{Lent, tailAfter, isRefused, appendTo, after, Accepted, grown}
 use Rattle.model.specs.Claims.{headerObjectsIn, NumberGiven, ObjectsGiven, ItemsGiven, Back, WroteOneSlot}
-use Rattle.claims.proofs.Depots.{demand2-depots}
+use Rattle.claims.proofs.Handed.{demand2-for}
 use Rattle.codec.specs.Eight.{slotSize, badFrame, inLog}
 use Rattle.entries.specs.declared.calls.Info.{Info}
 use Rattle.entries.specs.declared.calls.Found as finds
@@ -31,34 +31,35 @@ use Rattle.calls.proofs.Histories.{lent, requests, left-after, left-gro
 
 -- ---- accepted
 
-answered : (c : AppendCall) → isRefused (appendTo depots (lentAt c) (seen c .request) .newTail) ≡ isRefused (tailIn (seen c .answer))
+answered : (c : AppendCall) → isRefused (appendTo (shapeOf (seen c .dir)) (lentAt c) (seen c .request) .newTail) ≡ isRefused (tailIn (seen c .answer))
 answered c = ap (λ (x : model.Appended). isRefused (x .newTail)) (sym (append-promise c))
 
 pub calls-accept : CallsAccept
 calls-accept c =
-    let e = demand2-depots .acceptsExactly (lentAt c) (seen c .request) in
+    let e = demand2-for (seen c .dir) .acceptsExactly (lentAt c) (seen c .request) in
     (λ h. e .0 (answered c ∙ h), λ u. sym (answered c) ∙ e .1 u)
 
--- an accepted append over the log at l, which is the one it was given: what the model says of it, in the words of the values
-module _ (l : Lent) (c : AppendCall) (t : ℕ) (given : lentAt c ≡ l) (d : seen c .answer ≡ appended.Tail t) where
-  pub accepted-so : Accepted depots l (seen c .request)
+-- an accepted append over the log at l, which is the one it was given, with directory dir: what the model says of it, in the words of the values
+module _ (dir : List ℕ) (l : Lent) (c : AppendCall) (t : ℕ) (of : seen c .dir ≡ dir) (given : lentAt c ≡ l) (d : seen c .answer ≡ appended.Tail t) where
+  pub accepted-so : Accepted (shapeOf dir) l (seen c .request)
   accepted-so =
-      ap (λ (x : Lent). isRefused (model.append depots (x .bytes) (x .tail) (seen c .request) .newTail)) (sym given)
+      ap (λ (x : Lent). isRefused (model.append (shapeOf dir) (x .bytes) (x .tail) (seen c .request) .newTail)) (sym given)
+      ∙ ap (λ (x : List ℕ). isRefused (model.append (shapeOf x) (seen c .bytes) (seen c .tail) (seen c .request) .newTail)) (sym of)
       ∙ answered c ∙ ap (λ x. isRefused (tailIn x)) d
 
-  after-so : after depots l (seen c .request) ≡ lent (seen c .left) t
+  after-so : after (shapeOf dir) l (seen c .request) ≡ lent (seen c .left) t
   after-so =
-      left-after c (l .bytes) (l .tail) (ap (λ (x : Lent). x .bytes) given) (ap (λ (x : Lent). x .tail) given)
+      left-after dir c (l .bytes) (l .tail) of (ap (λ (x : Lent). x .bytes) given) (ap (λ (x : Lent). x .tail) given)
       ∙ ap (λ x. lent (seen c .left) (tailAfter (seen c .tail) (tailIn x))) d
 
   -- the log some appends later
-  pub later-so : (later : List AppendCall) → Grows (seen c .left) t later → grown depots (after depots l (seen c .request)) (requests later) ≡ leftBy (seen c .left) t later
-  later-so later g = ap (λ (x : Lent). grown depots x (requests later)) after-so ∙ left-grown (seen c .left) t later g
+  pub later-so : (later : List AppendCall) → Grows dir (seen c .left) t later → grown (shapeOf dir) (after (shapeOf dir) l (seen c .request)) (requests later) ≡ leftBy (seen c .left) t later
+  later-so later g = ap (λ (x : Lent). grown (shapeOf dir) x (requests later)) after-so ∙ left-grown dir (seen c .left) t later g
 
 pub calls-write : CallsWrite
 calls-write c t d =
-    let w : WroteOneSlot depots (lentAt c) (seen c .request) = demand2-depots .writesOneSlot (lentAt c) (seen c .request) (accepted-so (lentAt c) c t refl d) in
-    let left : after depots (lentAt c) (seen c .request) .bytes ≡ seen c .left = ap (λ (x : Lent). x .bytes) (after-so (lentAt c) c t refl d) in
+    let w : WroteOneSlot (shapeOf (seen c .dir)) (lentAt c) (seen c .request) = demand2-for (seen c .dir) .writesOneSlot (lentAt c) (seen c .request) (accepted-so (seen c .dir) (lentAt c) c t refl refl d) in
+    let left : after (shapeOf (seen c .dir)) (lentAt c) (seen c .request) .bytes ≡ seen c .left = ap (λ (x : Lent). x .bytes) (after-so (seen c .dir) (lentAt c) c t refl refl d) in
     let next : t ≡ seen c .tail + 1 =
     ap (tailAfter 0) (sym (ap tailIn d) ∙ ap (λ (x : model.Appended). x .newTail) (append-promise c) ∙ w .answers) in
     record {
@@ -84,9 +85,9 @@ pub calls-read-back : CallsReadBack
 calls-read-back c t d later g e i =
     let l : Lent = lentAt c in
     let q : model.Request = seen c .request in
-    let same = later-so l c t refl d later g in
-    let back : Back depots l q (leftBy (seen c .left) t later) = subst (Back depots l q) same (demand2-depots .readsBack l q (accepted-so l c t refl d) (requests later)) in
-    let m = told (e .call .answer) (back .info) (entry-promise (leftBy (seen c .left) t later) (l .tail) e ∙ back .reads) in (
+    let same = later-so (seen c .dir) l c t refl refl d later g in
+    let back : Back (shapeOf (seen c .dir)) l q (leftBy (seen c .left) t later) = subst (Back (shapeOf (seen c .dir)) l q) same (demand2-for (seen c .dir) .readsBack l q (accepted-so (seen c .dir) l c t refl refl d) (requests later)) in
+    let m = told (e .call .answer) (back .info) (entry-promise (seen c .dir) (leftBy (seen c .left) t later) (l .tail) e ∙ back .reads) in (
       m .0,
       m .1,
       record {
@@ -94,37 +95,40 @@ calls-read-back c t d later g e i =
         number = subst (λ (x : reading.Info). NumberGiven (inLog l) q (x .number)) (m .2) (back .number);
         objects = subst (λ (x : reading.Info). ObjectsGiven (inLog l) q (headerObjectsIn x)) (m .2) (back .objects);
         ascend = ap (λ (x : reading.Info). Rattle.lists.specs.Sets.ascending lib.Dec.ltb (headerObjectsIn x)) (sym (m .2)) ∙ back .ascend;
-        items = subst (ItemsGiven q) (sym (items-promise (leftBy (seen c .left) t later) (l .tail) i)) (back .items);
+        items = subst (ItemsGiven q) (sym (items-promise (seen c .dir) (leftBy (seen c .left) t later) (l .tail) i)) (back .items);
       },
     )
 
 pub calls-items-place : CallsItemsPlace
-calls-items-place log o c = items-place log o c
+calls-items-place d log o c = items-place d log o c
 
 -- ---- the same bytes
 
-module _ (l : Lent) (c : AppendCall) (t : ℕ) (given : lentAt c ≡ l) (d : seen c .answer ≡ appended.Tail t) where
+module _ (dir : List ℕ) (l : Lent) (c : AppendCall) (t : ℕ) (of : seen c .dir ≡ dir) (given : lentAt c ≡ l) (d : seen c .answer ≡ appended.Tail t) where
   at-tail : seen c .tail ≡ l .tail
   at-tail = ap (λ (x : Lent). x .tail) given
 
-  info-so : (x : EntryCall (lent (seen c .left) t) (seen c .tail)) → reading.entryCall depots (inLog (after depots l (seen c .request))) (l .tail) ≡ foundIn (x .call .answer)
+  info-so : (x : EntryCall (seen c .dir) (lent (seen c .left) t) (seen c .tail)) → reading.entryCall (shapeOf dir) (inLog (after (shapeOf dir) l (seen c .request))) (l .tail) ≡ foundIn (x .call .answer)
   info-so x =
-      ap (λ (y : Lent). reading.entryCall depots (inLog y) (l .tail)) (after-so l c t given d)
-      ∙ ap (reading.entryCall depots (inLog (lent (seen c .left) t))) (sym at-tail) ∙ sym (entry-promise (lent (seen c .left) t) (seen c .tail) x)
+      ap (λ (y : Lent). reading.entryCall (shapeOf dir) (inLog y) (l .tail)) (after-so dir l c t of given d)
+      ∙ ap (reading.entryCall (shapeOf dir) (inLog (lent (seen c .left) t))) (sym at-tail)
+      ∙ ap (λ (y : List ℕ). reading.entryCall (shapeOf y) (inLog (lent (seen c .left) t)) (seen c .tail)) (sym of) ∙ sym (entry-promise (seen c .dir) (lent (seen c .left) t) (seen c .tail) x)
 
-  items-so : (x : ItemsCall (lent (seen c .left) t) (seen c .tail)) → reading.itemList depots (inLog (after depots l (seen c .request))) (l .tail) ≡ part x
+  items-so : (x : ItemsCall (seen c .dir) (lent (seen c .left) t) (seen c .tail)) → reading.itemList (shapeOf dir) (inLog (after (shapeOf dir) l (seen c .request))) (l .tail) ≡ part x
   items-so x =
-      ap (λ (y : Lent). reading.itemList depots (inLog y) (l .tail)) (after-so l c t given d)
-      ∙ ap (reading.itemList depots (inLog (lent (seen c .left) t))) (sym at-tail) ∙ sym (items-promise (lent (seen c .left) t) (seen c .tail) x)
+      ap (λ (y : Lent). reading.itemList (shapeOf dir) (inLog y) (l .tail)) (after-so dir l c t of given d)
+      ∙ ap (reading.itemList (shapeOf dir) (inLog (lent (seen c .left) t))) (sym at-tail)
+      ∙ ap (λ (y : List ℕ). reading.itemList (shapeOf y) (inLog (lent (seen c .left) t)) (seen c .tail)) (sym of) ∙ sym (items-promise (seen c .dir) (lent (seen c .left) t) (seen c .tail) x)
 
 pub calls-same-bytes : CallsSameBytes
-calls-same-bytes c d t u given dc dd e i f j m n em en k x o p =
+calls-same-bytes c d t u same-dir given dc dd e i f j m n em en k x o p =
+    let dir : List ℕ = seen c .dir in
     let l : Lent = lentAt c in
-    let same = demand2-depots .sameBytes l (seen c .request) (seen d .request) (infoOf m) (infoOf n)
-    (accepted-so l c t refl dc) (accepted-so l d u (sym given) dd)
-    (info-so l c t refl dc e ∙ ap foundIn em) (info-so l d u (sym given) dd f ∙ ap foundIn en)
-    k x o (items-so l c t refl dc i ∙ p ∙ sym (items-so l d u (sym given) dd j)) in
-    ap (λ (y : Lent). y .bytes) (sym (after-so l c t refl dc)) ∙ same ∙ ap (λ (y : Lent). y .bytes) (after-so l d u (sym given) dd)
+    let same = demand2-for dir .sameBytes l (seen c .request) (seen d .request) (infoOf m) (infoOf n)
+    (accepted-so dir l c t refl refl dc) (accepted-so dir l d u (sym same-dir) (sym given) dd)
+    (info-so dir l c t refl refl dc e ∙ ap foundIn em) (info-so dir l d u (sym same-dir) (sym given) dd f ∙ ap foundIn en)
+    k x o (items-so dir l c t refl refl dc i ∙ p ∙ sym (items-so dir l d u (sym same-dir) (sym given) dd j)) in
+    ap (λ (y : Lent). y .bytes) (sym (after-so dir l c t refl refl dc)) ∙ same ∙ ap (λ (y : Lent). y .bytes) (after-so dir l d u (sym same-dir) (sym given) dd)
 
 -- ---- the log stays good
 
@@ -133,16 +137,17 @@ abbrev numberIn : Answer (Unit {0}) → ℕ
 numberIn (done x) = 0
 numberIn (refused r) = r .number
 
-never-two : (b : Bool) → numberIn (answer (firstOf (refuse 1 b ∷ refuseAt 2 none ∷ [])) tt) ≡ 2 → ⊥
-never-two true e = omega (arith, e)
-never-two false e = omega (arith, e)
+never-two : (x : Option ℕ) (b : Bool) → numberIn (answer (firstOf (refuseAt 15 x ∷ refuse 1 b ∷ refuseAt 2 none ∷ [])) tt) ≡ 2 → ⊥
+never-two (some k) b e = omega (arith, e)
+never-two none true e = omega (arith, e)
+never-two none false e = omega (arith, e)
 
 pub calls-keep-good : CallsKeepGood
 unfolding reading.check
 calls-keep-good a c o e =
-    let good : lowestBad depots (inLog (lastLog a)) ≡ none =
-    ap (λ (l : Lent). lowestBad depots (inLog l)) (sym (whole-left a)) ∙ demand2-depots .keepsGood (history a) in
-    let told : numberIn (answer (firstOf (refuse 1 (badFrame (inLog (lastLog a))) ∷ refuseAt 2 none ∷ [])) tt) ≡ 2 =
-    ap (λ (x : Option ℕ). numberIn (answer (firstOf (refuse 1 (badFrame (inLog (lastLog a))) ∷ refuseAt 2 x ∷ [])) tt)) (sym good)
-    ∙ ap numberIn (sym (check-promise (lastLog a) c)) ∙ ap (λ x. numberIn (checkedIn x)) e in
-    never-two (badFrame (inLog (lastLog a))) told
+    let good : lowestBad (shapeOf (a .dir)) (inLog (lastLog a)) ≡ none =
+    ap (λ (l : Lent). lowestBad (shapeOf (a .dir)) (inLog l)) (sym (whole-left a)) ∙ demand2-for (a .dir) .keepsGood (history a) in
+    let told : numberIn (answer (firstOf (refuseAt 15 (shapeOf (a .dir) .fault) ∷ refuse 1 (badFrame (inLog (lastLog a))) ∷ refuseAt 2 none ∷ [])) tt) ≡ 2 =
+    ap (λ (x : Option ℕ). numberIn (answer (firstOf (refuseAt 15 (shapeOf (a .dir) .fault) ∷ refuse 1 (badFrame (inLog (lastLog a))) ∷ refuseAt 2 x ∷ [])) tt)) (sym good)
+    ∙ ap numberIn (sym (check-promise (a .dir) (lastLog a) c)) ∙ ap (λ x. numberIn (checkedIn x)) e in
+    never-two (shapeOf (a .dir) .fault) (badFrame (inLog (lastLog a))) told

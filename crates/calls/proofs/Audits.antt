@@ -2,13 +2,14 @@
 use Prim.Native.Nat.{ℕ}
 use mathlib.Core.Path.{refl, ap, sym, _∙_, subst}
 use mathlib.Core.List.{List}
-use Rattle.model.specs.Objects.{depots}
+use Rattle.model.specs.Directory.{shapeOf}
+use Rattle.model.specs.Terms.{GoodFrame}
 use Rattle.model.specs.Replica.{Left, audit}
 use Rattle.model.specs.Run.{Run}
 use Rattle.model.specs.Histories.{Lent, wholeLog, ranTo}
 use Rattle.model.specs.Claims.{Audits}
-use Rattle.claims.proofs.Depots.{audits-depots, never-waits-depots}
-use Rattle.codec.specs.Eight.{inLog, GoodFrame}
+use Rattle.claims.proofs.Handed.{audits-for, never-waits-for}
+use Rattle.codec.specs.Eight.{inLog}
 use Rattle.answers.specs.Refusals.{checkedIn}
 use Rattle.calls.specs.Values.{lastLog, ran, scratch}
 use Rattle.calls.specs.Claims.{CallsAudit, CallsNeverWait}
@@ -16,16 +17,16 @@ use Rattle.calls.proofs.Promises.{audit-promise}
 use Rattle.calls.proofs.Histories.{history, whole-left, ran-so}
 
 pub calls-audit : CallsAudit
-calls-audit a c framed =
+calls-audit a c directed framed =
     let s : List ℕ = scratch c in
-    let given : Audits depots (wholeLog depots (history a)) (ranTo depots (history a)) s (audit depots (inLog (wholeLog depots (history a))) s) =
-    audits-depots (history a) s refl (subst GoodFrame (sym (whole-left a)) framed) in
-    let onLog : Audits depots (lastLog a) (ranTo depots (history a)) s (audit depots (inLog (lastLog a)) s) =
-    subst (λ (l : Lent). Audits depots l (ranTo depots (history a)) s (audit depots (inLog l) s)) (whole-left a) given in
-    let byRun : Audits depots (lastLog a) (ran a) s (audit depots (inLog (lastLog a)) s) =
-    subst (λ (r : ℕ → Run). Audits depots (lastLog a) r s (audit depots (inLog (lastLog a)) s)) (λ j p. ran-so a p j) onLog in
-    subst (Audits depots (lastLog a) (ran a) s) (sym (audit-promise (lastLog a) c)) byRun
+    let given : Audits (shapeOf (a .dir)) (wholeLog (shapeOf (a .dir)) (history a)) (ranTo (shapeOf (a .dir)) (history a)) s (audit (shapeOf (a .dir)) (inLog (wholeLog (shapeOf (a .dir)) (history a))) s) =
+    audits-for (a .dir) (history a) s directed (subst (GoodFrame (shapeOf (a .dir))) (sym (whole-left a)) framed) in
+    let onLog : Audits (shapeOf (a .dir)) (lastLog a) (ranTo (shapeOf (a .dir)) (history a)) s (audit (shapeOf (a .dir)) (inLog (lastLog a)) s) =
+    subst (λ (l : Lent). Audits (shapeOf (a .dir)) l (ranTo (shapeOf (a .dir)) (history a)) s (audit (shapeOf (a .dir)) (inLog l) s)) (whole-left a) given in
+    let byRun : Audits (shapeOf (a .dir)) (lastLog a) (ran a) s (audit (shapeOf (a .dir)) (inLog (lastLog a)) s) =
+    subst (λ (r : ℕ → Run). Audits (shapeOf (a .dir)) (lastLog a) r s (audit (shapeOf (a .dir)) (inLog (lastLog a)) s)) (λ j p. ran-so a p j) onLog in
+    subst (Audits (shapeOf (a .dir)) (lastLog a) (ran a) s) (sym (audit-promise (a .dir) (lastLog a) c)) byRun
 
 pub calls-never-wait : CallsNeverWait
-calls-never-wait log c e =
-    never-waits-depots (inLog log) (scratch c) (ap (λ (x : Left). x .answer) (sym (audit-promise log c)) ∙ ap checkedIn e)
+calls-never-wait d log c e =
+    never-waits-for d (inLog log) (scratch c) (ap (λ (x : Left). x .answer) (sym (audit-promise d log c)) ∙ ap checkedIn e)

@@ -5,13 +5,13 @@ use mathlib.Core.Path.{_≡_, refl, ap, sym, _∙_, subst}
 use mathlib.Core.Bool.{true}
 use denote.Ref.{now}
 use Rattle.lists.specs.Tests.{clash}
-use Rattle.model.specs.Objects.{depots}
+use Rattle.model.specs.Directory.{shapeOf}
 use Rattle.model.specs.Answers.{Answer, done, refused}
 use Rattle.model.specs.Append.{Replica}
 use Rattle.model.specs.Replica.{Left}
 use Rattle.model.specs.Histories.{isRefused}
 use Rattle.model.specs.Claims.{OpenedAt}
-use Rattle.claims.proofs.Depots.{opens-at-depots, opens-wherever-depots}
+use Rattle.claims.proofs.Handed.{opens-at-for, opens-wherever-for}
 use Rattle.claims.proofs.Opened.{opens-fresh}
 use Rattle.codec.specs.Eight.{inLog}
 use Rattle.answers.specs.Refusals.{checkedIn}
@@ -36,12 +36,13 @@ is-opened (opened.Refused y) r e = clash true refl (ap isRefused e)
 
 pub calls-open : CallsOpen
 calls-open = record {
-  fresh = λ c n listed. is-opened (c .answer) (record { hosted = c .given .0; position = 0; count = 0 }) (fresh-promise c ∙ opens-fresh depots (c .given .0) .1 (refl, n, listed));
-  atCheckpoint = λ log c e.
-      let o : ℕ = c .call .given .1 .1 .0 in
-      let same = open-promise log c in
-      subst (OpenedAt depots (inLog log) o (now (c .call .given .1 .1 .1 .0))) (sym same)
-      (opens-at-depots log o (now (c .call .given .1 .1 .1 .0)) (ap (λ (x : Left). x .answer) (sym same) ∙ ap checkedIn e));
-  wherever = λ log c x cs framed good below here room.
-      ap (λ (y : Left). y .answer) (open-promise log c) ∙ opens-wherever-depots log (c .call .given .1 .1 .0) (now (c .call .given .1 .1 .1 .0)) x cs refl framed good below here room;
+  fresh = λ c directed n listed.
+      is-opened (c .answer) (record { hosted = c .given .1 .0; position = 0; count = 0 }) (fresh-promise c ∙ opens-fresh (shapeOf (now (c .given .0))) (c .given .1 .0) .1 (directed, n, listed));
+  atCheckpoint = λ d log c e.
+      let o : ℕ = c .call .given .1 .1 .1 .0 in
+      let same = open-promise d log c in
+      subst (OpenedAt (shapeOf d) (inLog log) o (now (c .call .given .1 .1 .1 .1 .0))) (sym same)
+      (opens-at-for d log o (now (c .call .given .1 .1 .1 .1 .0)) (ap (λ (x : Left). x .answer) (sym same) ∙ ap checkedIn e));
+  wherever = λ d log c x cs directed framed good below here room.
+      ap (λ (y : Left). y .answer) (open-promise d log c) ∙ opens-wherever-for d log (c .call .given .1 .1 .1 .0) (now (c .call .given .1 .1 .1 .1 .0)) x cs directed framed good below here room;
 }

@@ -6,7 +6,7 @@ use mathlib.Core.List.{List, [], _∷_, _++_}
 use mathlib.Core.Option.{Option, some}
 use native.Mathlib.Omega.{arith}
 use lib.ListN.{length}
-use Rattle.model.specs.Objects.{depots}
+use Rattle.model.specs.Directory.{shapeOf}
 use Rattle.model.specs.Entries.{Read, Held}
 use Rattle.model.specs.Table.{versionIn}
 use Rattle.model.specs.Answers.{done, refused}
@@ -15,7 +15,7 @@ use Rattle.model.specs.Append.{commits}
 use Rattle.model.specs.Histories.{Lent, appendTo, after, grown, Carried, Play, plays, shown, stood}
 use Rattle.model.specs.Terms.{Pointed}
 use Rattle.model.specs.ReadClaims.{FirstAstray, ShownVersion, readOf}
-use Rattle.claims.proofs.Depots.{tells-astray-depots, astray-none-depots, shown-passes-depots}
+use Rattle.claims.proofs.Handed.{tells-astray-for, astray-none-for, shown-passes-for}
 use Rattle.codec.specs.Eight.{inLog}
 use Rattle.append.specs.declared.write.Appended.the-variants as appended
 use Rattle.append.specs.Answers.{tailIn}
@@ -31,18 +31,18 @@ use Rattle.calls.proofs.Behave.{passed, opened-so, plays-so}
 -- ---- commits
 
 -- the answer of a commit's call is the model's
-answered : (c : AppendCall) (n : ℕ) (items : List ℕ) → seen c .request ≡ commits n items → tailIn (seen c .answer) ≡ appendTo depots (lentAt c) (commits n items) .newTail
-answered c n items e = ap (λ (x : model.Appended). x .newTail) (append-promise c) ∙ ap (λ (q : model.Request). appendTo depots (lentAt c) q .newTail) e
+answered : (c : AppendCall) (n : ℕ) (items : List ℕ) → seen c .request ≡ commits n items → tailIn (seen c .answer) ≡ appendTo (shapeOf (seen c .dir)) (lentAt c) (commits n items) .newTail
+answered c n items e = ap (λ (x : model.Appended). x .newTail) (append-promise c) ∙ ap (λ (q : model.Request). appendTo (shapeOf (seen c .dir)) (lentAt c) q .newTail) e
 
 pub calls-tell-astray : CallsTellAstray
 calls-tell-astray c n items i e =
-    let m = tells-astray-depots (lentAt c) n items i in
+    let m = tells-astray-for (seen c .dir) (lentAt c) n items i in
     (λ h. m .0 (sym (answered c n items e) ∙ h), λ f. answered c n items e ∙ m .1 f)
 
 pub calls-astray-none : CallsAstrayNone
 calls-astray-none c n items t e d later g x m =
-    subst (λ (l : Lent). Pointed (inLog l) x) (ap (λ (q : model.Request). grown depots (after depots (lentAt c) q) (requests later)) (sym e) ∙ later-so (lentAt c) c t refl d later g)
-    (astray-none-depots (lentAt c) n items (ap (λ (q : model.Request). Rattle.model.specs.Histories.isRefused (appendTo depots (lentAt c) q .newTail)) (sym e) ∙ accepted-so (lentAt c) c t refl d) (requests later) x m)
+    subst (λ (l : Lent). Pointed (inLog l) x) (ap (λ (q : model.Request). grown (shapeOf (seen c .dir)) (after (shapeOf (seen c .dir)) (lentAt c) q) (requests later)) (sym e) ∙ later-so (seen c .dir) (lentAt c) c t refl refl d later g)
+    (astray-none-for (seen c .dir) (lentAt c) n items (ap (λ (q : model.Request). Rattle.model.specs.Histories.isRefused (appendTo (shapeOf (seen c .dir)) (lentAt c) q .newTail)) (sym e) ∙ accepted-so (seen c .dir) (lentAt c) c t refl refl d) (requests later) x m)
 
 -- ---- what a replica shows
 
@@ -61,20 +61,20 @@ same-place (a ∷ xs) (b ∷ ys) x y us vs e l = same-place xs ys x y us vs (ap 
     rest [] = []
     rest (z ∷ zs) = zs
 
-module _ (a : Appends) (k : Kept) (o key : ℕ) (held : Option Held) (s : ShownVersion depots (history a) (carry k) o key held) where
-  pointed-so : (m : ℕ) → versionIn held ≤ logAfter a m .tail → (later : List AppendCall) → Grows (logAfter a m .bytes) (logAfter a m .tail) later
+module _ (a : Appends) (k : Kept) (o key : ℕ) (held : Option Held) (s : ShownVersion (shapeOf (a .dir)) (history a) (carry k) o key held) where
+  pointed-so : (m : ℕ) → versionIn held ≤ logAfter a m .tail → (later : List AppendCall) → Grows (a .dir) (logAfter a m .bytes) (logAfter a m .tail) later
       → Pointed (inLog (leftBy (logAfter a m .bytes) (logAfter a m .tail) later)) (readOf o key held)
   pointed-so m low later g =
       subst (λ (l : Lent). Pointed (inLog l) (readOf o key held))
-      (ap (λ (l : Lent). grown depots l (requests later)) (stood-left a m) ∙ left-grown (logAfter a m .bytes) (logAfter a m .tail) later g)
+      (ap (λ (l : Lent). grown (shapeOf (a .dir)) l (requests later)) (stood-left a m) ∙ left-grown (a .dir) (logAfter a m .bytes) (logAfter a m .tail) later g)
       (s .pointed m (subst (λ (l : Lent). versionIn held ≤ l .tail) (sym (stood-left a m)) low) (requests later))
 
   shown-so : Shown a k o key held
   shown-so = record {
     past = s .past;
     pointed = pointed-so;
-    taken = λ m low later g c n items before rest given e reads told.
-        let f : FirstAstray depots (lentAt c) n items (length before) = calls-tell-astray c n items (length before) e .0 told in
+    taken = λ m low later g c n items before rest of given e reads told.
+        let f : FirstAstray (shapeOf (seen c .dir)) (lentAt c) n items (length before) = calls-tell-astray c n items (length before) e .0 told in
         let x : f .read ≡ readOf o key held = same-place (f .before) before (f .read) (readOf o key held) (f .rest) rest (sym (f .reads) ∙ reads) (f .place) in
         f .astray (subst (Pointed (inLog (lentAt c))) (sym x) (subst (λ (l : Lent). Pointed (inLog l) (readOf o key held)) (sym given) (pointed-so m low later g)));
   }
@@ -83,7 +83,7 @@ pub calls-shown-passes : CallsShownPasses
 calls-shown-passes a audit d k opens last ps o key r held e =
     let w = opened-so a k opens in
     let p = plays-so a k last ps in
-    let read = subst (λ (x : Carried). shown depots x o key ≡ done held) (sym (p .1)) (sym (read-promise last o key r) ∙ e) in
+    let read = subst (λ (x : Carried). shown (shapeOf (a .dir)) x o key ≡ done held) (sym (p .1)) (sym (read-promise (a .dir) last o key r) ∙ e) in
     shown-so a last o key held
-    (subst (λ (x : Carried). ShownVersion depots (history a) x o key held) (p .1)
-    (shown-passes-depots (history a) (scratch audit) (passed a audit (ap checkedIn d)) (w .0) (carry k) (w .1) (p .0) o key held read))
+    (subst (λ (x : Carried). ShownVersion (shapeOf (a .dir)) (history a) x o key held) (p .1)
+    (shown-passes-for (a .dir) (history a) (scratch audit) (passed a audit (ap checkedIn d)) (w .0) (carry k) (w .1) (p .0) o key held read))

@@ -2,8 +2,9 @@
 -- FirstWriting), in which a new cell was the last row, they answer the same and leave the same rows, sorted.
 use Prim.Native.Nat.{ℕ, _≤_}
 use mathlib.Core.Path.{_≡_}
+use mathlib.Core.List.{List}
 use denote.Ref.{now}
-use Rattle.model.specs.Objects.{depots}
+use Rattle.model.specs.Directory.{shapeOf}
 use Rattle.model.specs.Table.{capacity, tableWith}
 use Rattle.model.specs.Append.{Appended, saves}
 use Rattle.model.specs.Replica.{Left, openAt}
@@ -23,15 +24,15 @@ use Rattle.calls.specs.Values.{AppendCall, seen, Appends, logAfter, Audi
 -- Which rows they are: `CallsOpen` says it of openings, what stands below of plays and audits.
 pub record CallsLeaveInOrder : Type 0 where
   -- a play that ended done, waiting or without room, from any record and table of bytes, on any log
-  pub ended : (log : Lent) (k : Kept) (p : PlayOn log k) → Bytes (k .table) → Ended (stopOf p) (playLeft p) → InOrder (counted (carry (kept p)))
+  pub ended : (d : List ℕ) (log : Lent) (k : Kept) (p : PlayOn d log k) → Bytes (k .table) → Ended (stopOf p) (playLeft p) → InOrder (counted (carry (kept p)))
   -- a play of rows in order, whatever it answered
-  pub keeps : (log : Lent) (k : Kept) (p : PlayOn log k) → Bytes (k .table) → InOrder (counted (carry k)) → InOrder (counted (carry (kept p)))
+  pub keeps : (d : List ℕ) (log : Lent) (k : Kept) (p : PlayOn d log k) → Bytes (k .table) → InOrder (counted (carry k)) → InOrder (counted (carry (kept p)))
   -- an opening at a checkpoint, whatever it answered
-  pub openings : (log : Lent) (c : OpenCall log) → InOrder (counted (carried (openLeft c)))
+  pub openings : (d : List ℕ) (log : Lent) (c : OpenCall d log) → InOrder (counted (carried (openLeft c)))
   -- a replica that was opened and played, whatever its plays answered
   pub replicas : (a : Appends) (k : Kept) → Opens a k → (last : Kept) → Plays a k last → InOrder (counted (carry last))
   -- an audit, whatever it answered
-  pub audits : (log : Lent) (c : AuditCall log) → InOrder (counted (carried (auditLeft c)))
+  pub audits : (d : List ℕ) (log : Lent) (c : AuditCall d log) → InOrder (counted (carried (auditLeft c)))
 
 -- ---- single calls, on any log
 
@@ -40,29 +41,29 @@ abbrev pub SameLeft : Left → Left → Type 0
 SameLeft out last = SameAudit out last
 
 -- a play in the order of the base
-abbrev pub playOnLast : Lent → Carried → ℕ → Left
-playOnLast log r stop = playCallLast depots (inLog log) (r .replica) (r .table) stop
+abbrev pub playOnLast : List ℕ → Lent → Carried → ℕ → Left
+playOnLast d log r stop = playCallLast (shapeOf d) (inLog log) (r .replica) (r .table) stop
 
 -- a play of any record that counts rows in order, no more than its table has, whatever it answers
 abbrev pub CallsSamePlay : Type 0
-CallsSamePlay = (log : Lent) (k : Kept) (p : PlayOn log k) → Bytes (k .table) → k .replica .count ≤ capacity (k .table) → InOrder (counted (carry k))
-    → SameLeft (playLeft p) (playOnLast log (carry k) (stopOf p))
+CallsSamePlay = (d : List ℕ) (log : Lent) (k : Kept) (p : PlayOn d log k) → Bytes (k .table) → k .replica .count ≤ capacity (k .table) → InOrder (counted (carry k))
+    → SameLeft (playLeft p) (playOnLast d log (carry k) (stopOf p))
 
 -- an audit, whatever it answers, its offset too
 abbrev pub CallsSameAudit : Type 0
-CallsSameAudit = (log : Lent) (c : AuditCall log) → SameLeft (auditLeft c) (auditLast depots (inLog log) (scratch c))
+CallsSameAudit = (d : List ℕ) (log : Lent) (c : AuditCall d log) → SameLeft (auditLeft c) (auditLast (shapeOf d) (inLog log) (scratch c))
 
 -- ---- replicas that were opened and played
 
 -- the base's opening, given the same: a checkpoint has its cells in key order, so that it is the model's
 abbrev pub opensLast : (a : Appends) (k : Kept) → Opens a k → Carried
-opensLast a k (fresh c r table e) = record { replica = record { hosting = c .given .0; position = 0; count = 0 }; table = table }
-opensLast a k (atCheckpoint n c e) = carried (openAt depots (inLog (logAfter a n)) (c .call .given .1 .1 .0) (now (c .call .given .1 .1 .1 .0)))
+opensLast a k (fresh c r table f e) = record { replica = record { hosting = c .given .1 .0; position = 0; count = 0 }; table = table }
+opensLast a k (atCheckpoint n c e) = carried (openAt (shapeOf (a .dir)) (inLog (logAfter a n)) (c .call .given .1 .1 .1 .0) (now (c .call .given .1 .1 .1 .1 .0)))
 
 -- the base's plays, given the same: each on the same log to the same stop, from what its own play before left
 unfoldable pub playsLast : (a : Appends) (k last : Kept) → Plays a k last → Carried → Carried
 playsLast a k last (none x) r = r
-playsLast a k last (more x y p rest) r = playsLast a (kept (p .on)) last rest (carried (playOnLast (logAfter a (p .stoodAfter)) r (stopOf (p .on))))
+playsLast a k last (more x y p rest) r = playsLast a (kept (p .on)) last rest (carried (playOnLast (a .dir) (logAfter a (p .stoodAfter)) r (stopOf (p .on))))
 
 -- what an append answered, and the whole log that it left
 abbrev pub appendLeft : AppendCall → Appended
@@ -76,13 +77,13 @@ pub record CallsAlike (a : Appends) (k : Kept) (last : Carried) : Type 0 where
   pub cells : counted (carry k) ≡ sorted (counted last)
   pub table : k .table ≡ tableWith (last .table) (sorted (counted last))
   -- the next play answers the same, and leaves the same position and count
-  pub answers : (p : PlayCall a k) → playLeft (p .on) .answer ≡ playOnLast (logAfter a (p .stoodAfter)) last (stopOf (p .on)) .answer
-  pub leaves : (p : PlayCall a k) → playLeft (p .on) .replica ≡ playOnLast (logAfter a (p .stoodAfter)) last (stopOf (p .on)) .replica
+  pub answers : (p : PlayCall a k) → playLeft (p .on) .answer ≡ playOnLast (a .dir) (logAfter a (p .stoodAfter)) last (stopOf (p .on)) .answer
+  pub leaves : (p : PlayCall a k) → playLeft (p .on) .replica ≡ playOnLast (a .dir) (logAfter a (p .stoodAfter)) last (stopOf (p .on)) .replica
   -- every cell reading answers the same
-  pub reads : (o key : ℕ) (c : ReadCall k o key) → readIn (c .call .answer) ≡ readCellLast depots (last .replica) (last .table) o key
+  pub reads : (o key : ℕ) (c : ReadCall (a .dir) k o key) → readIn (c .call .answer) ≡ readCellLast (shapeOf (a .dir)) (last .replica) (last .table) o key
   -- a checkpoint of it, appended to any log: the same answer and the same log bytes
-  pub saved : (c : AppendCall) (o : ℕ) → seen c .request ≡ saves (replicaIn (k .replica)) (k .table) o
-      → appendLeft c ≡ saveLast depots (seen c .bytes) (seen c .tail) (last .replica) (last .table) o
+  pub saved : (c : AppendCall) (o : ℕ) → seen c .dir ≡ a .dir → seen c .request ≡ saves (replicaIn (k .replica)) (k .table) o
+      → appendLeft c ≡ saveLast (shapeOf (a .dir)) (seen c .bytes) (seen c .tail) (last .replica) (last .table) o
 
 -- whatever was opened and played, in both orders; each play is the next one of the replica before it
 abbrev pub CallsSame : Type 0

@@ -54,8 +54,8 @@ pub fn part(input: &[u8], at: usize, n: usize) -> &[u8]
 }
 
 // The lowest byte of a number.
-pub fn low(n: u32) -> u8
+pub fn low(n: u32) -> u64
     ensures { λ r. ⌜ r ≡ n % 256 ⌝ }
 {
-    (n % 256) as u8
+    (n % 256) as u64
 }

@@ -21,7 +21,7 @@ use Rattle.model.specs.Objects.{ObjectKind, aMap, aRegister, Object, Shape, isO
 use Rattle.model.specs.Entries.{Log, ifSome, isNone, owes}
 use Rattle.model.specs.Slot.{slot, slotOf, logOf}
 use Rattle.model.specs.Rules.{lowest, lowestBad}
-use Rattle.model.specs.Directory.{recordSize, idAt, recordAt, okRecord, follows, atFault, places, shapeOf, recordBytes, directoryOf, objectsOf, faultOf}
+use Rattle.model.specs.Directory.{recordSize, idAt, recordAt, okRecord, follows, atFault, places, shapeOf, recordBytes, directoryOf, listedIn, faultOf}
 use Rattle.model.specs.Answers.{Refusal, refuse, refuseAt, firstOf, answer, badFrame, frameAndEntries}
 use Rattle.model.specs.Reading.{check, owed, infoIn, entryCall, stretch, orEmpty, itemList, nextOf, nextGiven, streamNext, offsetsOf, listGiven, streamList}
 use Rattle.model.specs.Append.{badRecord, badReplica, entryOf, ownTests, appendGiven, append}
@@ -92,7 +92,7 @@ module _ (d : List ℕ) (n : ℕ) (w : Whole d n) where
       sym (ap (joined recordBytes) (sym same) ∙ again ∙ ap (λ (m : ℕ). take m d) (sym (w .size)) ∙ take-length d)
 
 pub directed-exactly : DirectedExactly
-unfolding objectsOf faultOf
+unfolding listedIn faultOf
 directed-exactly d bytes = (
   λ e. let w = fault-none d e in (values (placed d) 0 (length d / recordSize), objects-list d (length d / recordSize) w, stored-again d (length d / recordSize) w bytes),
   λ x. let (bs, l, e) = x in ap (λ (s : List ℕ). shapeOf s .fault) e ∙ ap (λ (sh : Shape). sh .fault) (reads-back-directory bs l),
@@ -152,7 +152,7 @@ module _ (d : List ℕ) (bytes : Bytes d) where
       go false e (inr l) = omega arith
 
   fault-words : (k : ℕ) → shapeOf d .fault ≡ some k → FirstFault d k
-  unfolding objectsOf faultOf
+  unfolding listedIn faultOf
   fault-words k e =
       let (l, b, f) = lowest-some (atFault d) (places d) k e in
       record {
@@ -162,7 +162,7 @@ module _ (d : List ℕ) (bytes : Bytes d) where
       }
 
   words-fault : (k : ℕ) → FirstFault d k → shapeOf d .fault ≡ some k
-  unfolding objectsOf faultOf
+  unfolding listedIn faultOf
   words-fault k f = some-lowest (atFault d) (places d) k (words-judged k (f .begun)) (bad (atFault d k) refl) (λ j h. words-place d j (good-place j (f .before j h)))
     where
       bad : (t : Bool) → atFault d k ≡ t → t ≡ true

@@ -13,7 +13,7 @@ use Rattle.model.specs.Objects.{Shape, everything}
 use Rattle.model.specs.Entries.{Log}
 use Rattle.model.specs.Slot.{logIn, okShape}
 use Rattle.model.specs.Rules.{lowestBad}
-use Rattle.model.specs.Directory.{shapeOf, objectsOf, faultOf}
+use Rattle.model.specs.Directory.{shapeOf, listedIn, faultOf}
 use Rattle.model.specs.Table.{cellsOf, tableWith, capacity}
 use Rattle.model.specs.Answers.{refused}
 use Rattle.model.specs.Append.{Request, Appended}
@@ -50,7 +50,7 @@ use Rattle.claims.proofs.Directories.{begins-refused, answers-fault}
 
 -- ---- what was not refused had a directory without fault
 
-by-fault {ℓ} : {P : Type ℓ} (sh : Shape) → (Directed sh → P) → ((k : ℕ) → sh .fault ≡ some k → P) → P
+pub by-fault {ℓ} : {P : Type ℓ} (sh : Shape) → (Directed sh → P) → ((k : ℕ) → sh .fault ≡ some k → P) → P
 by-fault {P = P} sh f g = go (sh .fault) refl
   where
     go : (x : Option ℕ) → sh .fault ≡ x → P
@@ -202,7 +202,7 @@ module _ (dir : List ℕ) where
 
   -- the layout is that of every directory
   pub header-reads-for : HeaderRead (shapeOf dir)
-  unfolding objectsOf faultOf
+  unfolding listedIn faultOf
   header-reads-for = header-reads sh refl
 
   -- an id above 31 bits would be read as a format
@@ -210,7 +210,7 @@ module _ (dir : List ℕ) where
   tells-where-for directed = tells-where sh (good directed)
 
   pub past-is-bad-for : PastIsBad (shapeOf dir)
-  unfolding objectsOf faultOf
+  unfolding listedIn faultOf
   past-is-bad-for = past-is-bad sh refl
 
   pub tells-astray-for : TellsAstray (shapeOf dir)

@@ -37,4 +37,3 @@ pub mod Order
 pub mod Headers
 pub mod Directories
 pub mod Handed
-pub mod Depots

@@ -1,4 +1,4 @@
-// The leaves: integers in bytes, a type for each kind of number, marks, header words and hosted sets, what a cell holds, the table of objects.
+// The leaves: integers in bytes, a type for each kind of number, marks, header words, what a cell holds, the table of the eight objects.
 pub mod bytes;
 pub mod cells;
 pub mod layout;

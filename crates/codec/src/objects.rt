@@ -1,8 +1,4 @@
 // The constant table of the eight objects, read by place.
-ghost use mathlib.Core.Path.{_≡_};
-ghost use Rattle.model.specs.Objects.{depots, isObject, isCell, isMarked};
-use crate::names::ObjectId;
-
 // id, kind (1 map, 2 register), highest key, mark (1 or 0)
 pub struct Object {
     pub id: u32,
@@ -11,7 +7,7 @@ pub struct Object {
     pub marked: bool,
 }
 
-const OBJECTS: [Object; 8] = [
+pub const OBJECTS: [Object; 8] = [
     Object {
         id: 1,
         kind: 1,
@@ -61,40 +57,3 @@ const OBJECTS: [Object; 8] = [
         marked: false,
     },
 ];
-
-pub fn is_object(id: ObjectId) -> bool
-    ensures { λ r. ⌜ r ≡ isObject depots (id .0) ⌝ }
-{
-    if id.0 < 1 {
-        return false;
-    }
-    id.0 <= 8
-}
-
-pub fn is_cell(id: ObjectId, key: u32) -> bool
-    ensures { λ r. ⌜ r ≡ isCell depots (id .0) key ⌝ }
-{
-    if id.0 < 1 {
-        return false;
-    }
-    if 8 < id.0 {
-        return false;
-    }
-    let k = (id.0 - 1) as usize;
-    let b = OBJECTS[k];
-    key <= b.highest
-}
-
-pub fn is_marked(id: ObjectId) -> bool
-    ensures { λ r. ⌜ r ≡ isMarked depots (id .0) ⌝ }
-{
-    if id.0 < 1 {
-        return false;
-    }
-    if 8 < id.0 {
-        return false;
-    }
-    let k = (id.0 - 1) as usize;
-    let b = OBJECTS[k];
-    b.marked
-}

@@ -22,17 +22,25 @@ faultIn (At k) = some k
 
 -- ---- a record by itself
 
+-- its mark and its zero bytes
+abbrev pub okFrame : List ℕ → ℕ → Bool
+okFrame d i = eqb (beAt 2 d i) markObject && eqb (beAt 2 d (i + 2)) 0 && eqb (beAt 2 d (i + 14)) 0
+
+-- its id
+abbrev pub okId : ℕ → Bool
+okId id = leb 1 id && ltb id (2 ^ 31)
+
 -- the tests of a record in turn: its frame, its id, its kind with its highest key, its mark
 pub record-judged : (d : List ℕ) (i : ℕ) (f n k m : Bool)
-    → (eqb (beAt 2 d i) markObject && eqb (beAt 2 d (i + 2)) 0 && eqb (beAt 2 d (i + 14)) 0) ≡ f
-    → (leb 1 (idAt d i) && ltb (idAt d i) (2 ^ 31)) ≡ n
+    → okFrame d i ≡ f
+    → okId (idAt d i) ≡ n
     → okKindAndKey (beAt 1 d (i + 12)) (beAt 4 d (i + 8)) ≡ k
     → leb (beAt 1 d (i + 13)) 1 ≡ m
     → okRecord d i ≡ (f && n && k && m)
 unfolding okRecord
 record-judged d i f n k m p q r s =
     ap (λ (b : Bool). b && okKindAndKey (beAt 1 d (i + 12)) (beAt 4 d (i + 8)) && leb (beAt 1 d (i + 13)) 1)
-    (sym (joined (eqb (beAt 2 d i) markObject && eqb (beAt 2 d (i + 2)) 0 && eqb (beAt 2 d (i + 14)) 0) (leb 1 (idAt d i)) (ltb (idAt d i) (2 ^ 31))))
+    (sym (joined (okFrame d i) (leb 1 (idAt d i)) (ltb (idAt d i) (2 ^ 31))))
     ∙ (λ j. p j && q j && r j && s j)
   where
     joined : (a b c : Bool) → (a && (b && c)) ≡ (a && b && c)

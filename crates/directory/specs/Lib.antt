@@ -1,2 +1,4 @@
 pub mod Faults
 pub mod Places
+pub mod Eight
+pub mod Sets

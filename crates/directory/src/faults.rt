@@ -1,12 +1,9 @@
 // The first place at fault in a directory (1.11, 1.12): each place is judged by itself and by the id before it.
 ghost use mathlib.Core.Path.{_≡_};
-ghost use mathlib.Core.Bool.{_&&_};
-ghost use Prim.Native.Nat.{_+_, _*_, _^_, _≤_};
-ghost use lib.Dec.{eqb, leb, ltb};
+ghost use Prim.Native.Nat.{_+_, _*_, _≤_};
 ghost use lib.ListN.{length};
-ghost use Rattle.lists.specs.Bytes.{beAt};
-ghost use Rattle.model.specs.Directory.{recordSize, markObject, okKindAndKey, okRecord, follows, atFault, places, shapeOf};
-ghost use Rattle.directory.specs.Faults.{faultIn};
+ghost use Rattle.model.specs.Directory.{recordSize, okKindAndKey, okRecord, follows, atFault, places, shapeOf};
+ghost use Rattle.directory.specs.Faults.{okFrame, okId, faultIn};
 use crate::layout::HIGHEST_BEGINS;
 use crate::layout::ID_BEGINS;
 use crate::layout::IDS_END;
@@ -25,7 +22,7 @@ use crate::layout::ZEROS_BEGIN;
 // The record at byte i has its mark and its zero bytes.
 fn is_framed(dir: &[u8], i: usize) -> bool
     requires { ⌜ i + recordSize ≤ length (now dir) ⌝ }
-    ensures { λ r. ⌜ r ≡ (eqb (beAt 2 (now (dir .entry)) i) markObject && eqb (beAt 2 (now (dir .entry)) (i + 2)) 0 && eqb (beAt 2 (now (dir .entry)) (i + 14)) 0) ⌝ }
+    ensures { λ r. ⌜ r ≡ okFrame (now (dir .entry)) i ⌝ }
 {
     if codec::bytes::be16(dir, i) != MARK_OBJECT {
         return false;
@@ -38,7 +35,7 @@ fn is_framed(dir: &[u8], i: usize) -> bool
 
 // An object may have this number.
 fn is_id(id: u32) -> bool
-    ensures { λ r. ⌜ r ≡ (leb 1 id && ltb id (2 ^ 31)) ⌝ }
+    ensures { λ r. ⌜ r ≡ okId id ⌝ }
 {
     if id < 1 {
         return false;

@@ -13,7 +13,7 @@ use Rattle.lists.specs.Tests.{and-l, or-false, clash}
 use Rattle.lists.specs.Rows.{values, length-values, getD-values, map-values}
 use Rattle.lists.specs.Sets.{any, mem, ascending, rest-ascends}
 use Rattle.model.specs.Objects.{Object, Shape, ids, isObject, isCell, isMarked, hostedBy, hosted, bitOf, setOf, everything, badSet}
-use Rattle.model.specs.Directory.{recordSize, mostRecords, idAt, recordAt, shapeOf, objectsOf, faultOf}
+use Rattle.model.specs.Directory.{recordSize, mostRecords, idAt, recordAt, shapeOf, listedIn, faultOf}
 use Rattle.laws.specs.Ruled.{Ruled, records, PlaceOf}
 use Rattle.laws.proofs.Items.{idsOf}
 use Rattle.laws.proofs.Directory.{hosted-listed, every-bit, set-words}
@@ -55,7 +55,7 @@ highestOf d k = placed d k .highest
 
 module _ (d : List ℕ) (n : ℕ) (w : Whole d n) where
   objects-are : shapeOf d .objects ≡ values (placed d) 0 n
-  unfolding objectsOf faultOf
+  unfolding listedIn faultOf
   objects-are = ap (values (placed d) 0) (count-of d n (w .size))
 
   pub how-many : length (shapeOf d .objects) ≡ n

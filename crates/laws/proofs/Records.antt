@@ -19,7 +19,7 @@ use Rattle.lists.specs.Every.{failing, every-all}
 use Rattle.lists.specs.Ascend.{unordered, ascend-all}
 use Rattle.model.specs.Objects.{ObjectKind, aMap, aRegister, Object, theLayout, okObject}
 use Rattle.model.specs.Slot.{okShape}
-use Rattle.model.specs.Directory.{recordSize, markObject, mostRecords, kindOf, kindByte, markedByte, idAt, recordAt, okKindAndKey, okRecord, follows, atFault, places, shapeOf, recordBytes, directoryOf, objectsOf, faultOf}
+use Rattle.model.specs.Directory.{recordSize, markObject, mostRecords, kindOf, kindByte, markedByte, idAt, recordAt, okKindAndKey, okRecord, follows, atFault, places, shapeOf, recordBytes, directoryOf, listedIn, faultOf}
 use Rattle.laws.proofs.Items.{sizes}
 use Rattle.laws.proofs.Refusals.{lowest-none, none-lowest}
 use Rattle.laws.proofs.Stored.{values-places, joined-load}
@@ -239,7 +239,7 @@ count-of d n e = omega arith
 -- a directory without fault is one of whole records, and the other way round
 module _ (d : List ℕ) where
   pub fault-none : shapeOf d .fault ≡ none → Whole d (length d / recordSize)
-  unfolding objectsOf faultOf
+  unfolding listedIn faultOf
   fault-none e = go (eqb (length d) 0) refl refl
     where
       place : (k : ℕ) → k < places d → Place d k
@@ -257,7 +257,7 @@ module _ (d : List ℕ) where
           record { size = omega arith; some = omega arith; few = omega arith; each = λ k h. place k (omega arith) }
 
   pub none-fault : (n : ℕ) → Whole d n → shapeOf d .fault ≡ none
-  unfolding objectsOf faultOf
+  unfolding listedIn faultOf
   none-fault n w = none-lowest (atFault d) (places d) (λ k h. words-place d k (w .each k (omega (arith, places-of d n (w .size) (w .some)))))
 
 -- ---- the shape
@@ -289,7 +289,7 @@ listed-good bs h = all-weaken okListed okObject bs listed-ok h
 
 -- a directory without fault gives a good shape
 pub good-shape : (d : List ℕ) → shapeOf d .fault ≡ none → okShape (shapeOf d) ≡ true
-unfolding objectsOf faultOf
+unfolding listedIn faultOf
 good-shape d e =
     let w = fault-none d e in
     both (both (listed-good (values (placed d) 0 (length d / recordSize)) (all-listed d (length d / recordSize) w)) (ids-ascend d (length d / recordSize) w)) refl
@@ -350,7 +350,7 @@ module _ (bs : List Object) (each : all okListed bs ≡ true) where
     }
 
     pub reads-back : shapeOf bytes ≡ record { objects = bs; layout = theLayout; fault = none }
-    unfolding objectsOf faultOf
+    unfolding listedIn faultOf
     reads-back =
         let e = ap (λ (m : ℕ). values (placed bytes) 0 m) (count-of bytes (length bs) length-directory) ∙ objects-back in
         let f = none-fault bytes (length bs) stored-whole in

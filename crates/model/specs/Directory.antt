@@ -65,15 +65,15 @@ abbrev pub places : List ℕ → ℕ
 places d = cond (eqb (length d) 0) 1 ((length d + 15) / recordSize)
 
 -- the objects that it lists, and its first place at fault (1.12)
-unfoldable pub objectsOf : List ℕ → List Object
-objectsOf d = values (λ k. recordAt d (recordSize * k)) 0 (length d / recordSize)
+unfoldable pub listedIn : List ℕ → List Object
+listedIn d = values (λ k. recordAt d (recordSize * k)) 0 (length d / recordSize)
 
 unfoldable pub faultOf : List ℕ → Option ℕ
 faultOf d = lowest (atFault d) (places d)
 
 -- the shape that a directory's bytes give (1.13)
 abbrev pub shapeOf : List ℕ → Shape
-shapeOf d = record { objects = objectsOf d; layout = theLayout; fault = faultOf d }
+shapeOf d = record { objects = listedIn d; layout = theLayout; fault = faultOf d }
 
 -- the bytes of a list of objects
 unfoldable pub recordBytes : Object → List ℕ

@@ -19,7 +19,7 @@ use Rattle.model.specs.Entries.{checkpoint, Log, writesOf, stamps, astra
 use Rattle.model.specs.Slot.{headersBegin, headerSize, itemsBegin, distanceTo, headerWith, writeBytes, writeAt, readBytes, readAt, savedBytes, savedAt, itemBytes, itemCount, headerOf, slotOf, decode, slot, logIn, objectsIn}
 use Rattle.model.specs.Headers.{BackPointer, nothing, at as entryAt, past, formatAt, backsAt, dueFormat, dueBacks}
 use Rattle.model.specs.Rules.{okEntry, lowest, lowestBad, okWrite, okWrites, okRead, okReads, okSaved, narrow, goodAt, repeats}
-use Rattle.model.specs.Directory.{recordSize, recordAt, okRecord, atFault, shapeOf, recordBytes, directoryOf, objectsOf, faultOf}
+use Rattle.model.specs.Directory.{recordSize, recordAt, okRecord, atFault, shapeOf, recordBytes, directoryOf, listedIn, faultOf}
 use Rattle.model.specs.Table.{Cell, cellSize, cellAt, cellBytes, cellsOf, tableWith, apply, savedOf, cellOf, lookup, inOrder, store}
 use Rattle.model.specs.Play.{play, commitsOver, step}
 use Rattle.model.specs.Answers.{Answer, done, refused, firstPlace, badFrame}
@@ -418,7 +418,7 @@ abbrev pub eight : List ℕ
 eight = directoryOf theObjects
 
 pub the-eight : shapeOf eight ≡ depots
-unfolding beAt bytesOf values joined first firstFrom lowest recordAt okRecord atFault objectsOf faultOf recordBytes directoryOf
+unfolding beAt bytesOf values joined first firstFrom lowest recordAt okRecord atFault listedIn faultOf recordBytes directoryOf
 the-eight = refl
 
 -- maps with the ids 1 to n
@@ -516,5 +516,5 @@ handedOver =
     ∷ []
 
 pub handed-over : all rowHolds handedOver ≡ true
-unfolding rowHolds beAt bytesOf splice values joined first firstFrom picks eqList writesOf stamps astray closed decided headerObjects earlier writeBytes writeAt readBytes readAt savedBytes savedAt itemBytes itemCount headerOf slotOf decode slot logIn okEntry lowest lowestBad recordAt okRecord atFault objectsOf faultOf recordBytes directoryOf cellAt cellBytes cellsOf tableWith apply savedOf play commitsOver entryOf firstPlace ownTests append openFresh openAt playCall readCell audit grown isObject isCell isMarked hosted okWrite okWrites okRead okReads okSaved narrow goodAt lookup inOrder store step badFrame objectsIn repeats check owed entryCall infoIn itemList streamNext streamList offsetsOf
+unfolding rowHolds beAt bytesOf splice values joined first firstFrom picks eqList writesOf stamps astray closed decided headerObjects earlier writeBytes writeAt readBytes readAt savedBytes savedAt itemBytes itemCount headerOf slotOf decode slot logIn okEntry lowest lowestBad recordAt okRecord atFault listedIn faultOf recordBytes directoryOf cellAt cellBytes cellsOf tableWith apply savedOf play commitsOver entryOf firstPlace ownTests append openFresh openAt playCall readCell audit grown isObject isCell isMarked hosted okWrite okWrites okRead okReads okSaved narrow goodAt lookup inOrder store step badFrame objectsIn repeats check owed entryCall infoIn itemList streamNext streamList offsetsOf
 handed-over = refl

@@ -10,7 +10,7 @@ use Rattle.lists.specs.Sets.{all}
 use Rattle.lists.specs.Rows.{values}
 use Rattle.lists.specs.First.{Seeking}
 use Rattle.lists.specs.Every.{failing, every-not, every-all}
-use Rattle.model.specs.Objects.{depots}
+use Rattle.model.specs.Directory.{shapeOf}
 use Rattle.model.specs.Entries.{Read, Log}
 use Rattle.model.specs.Slot.{readAt, itemSize}
 use Rattle.model.specs.Table.{Holds, versionIn}
@@ -56,12 +56,12 @@ not-commit Checkpoint h = refl
 not-commit Bad h = refl
 
 -- a replica and its table played to p, or as they were
-abbrev pub stands : Log → ℕ → Replica → List ℕ → Bool → Replica × List ℕ
-stands log p r t b = cond b (playCall depots log r t p .replica, playCall depots log r t p .table) (r, t)
+abbrev pub stands : List ℕ → Log → ℕ → Replica → List ℕ → Bool → Replica × List ℕ
+stands d log p r t b = cond b (playCall (shapeOf d) log r t p .replica, playCall (shapeOf d) log r t p .table) (r, t)
 
 -- at the entry at p, of which the entry call tells x: played to a commit record
-abbrev pub metAt : Log → ℕ → Answer Info → Replica → List ℕ → Replica × List ℕ
-metAt log p x r t = stands log p r t (isCommit x)
+abbrev pub metAt : List ℕ → Log → ℕ → Answer Info → Replica → List ℕ → Replica × List ℕ
+metAt d log p x r t = stands d log p r t (isCommit x)
 
 -- ---- whether it commits
 

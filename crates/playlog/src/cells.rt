@@ -1,4 +1,5 @@
 // The lines of the cells: object, key, value or "-", version. The table has them in order.
+ghost use Rattle.laws.specs.Ruled.{Ruled};
 use codec::cells::Content;
 use records::Record;
 use table::rows::Row;
@@ -20,9 +21,11 @@ fn line(r: Row) {
 }
 
 // The lines of the counted cells; none where the record does not fit its table.
-pub fn print(r: Record, table: &[u8]) {
+pub fn print(dir: &[u8], r: Record, table: &[u8])
+    requires { ⌜ Ruled (now dir) ⌝ }
+{
     io::write_all(1, b"object key value version\n");
-    if !records::fits(r, table) {
+    if !records::fits(dir, r, table) {
         return;
     }
     let n = r.count as usize;

@@ -2,15 +2,21 @@
 mod cells;
 mod outcomes;
 
+ghost use Rattle.laws.specs.Ruled.{Ruled};
 use answers::Checked;
 use answers::Refusal;
 use codec::layout::SLOT_SIZE;
 
+// The directory of the eight objects has so many bytes.
+const EIGHT_SIZE: usize = 128;
+
 // The log is at most 256 slots, all of them used; the table has room for 2,730 cells.
-fn report(log: &[u8]) {
+fn report(dir: &[u8], log: &[u8])
+    requires { ⌜ Ruled (now dir) ⌝ }
+{
     let tail = log.len() / SLOT_SIZE;
     let mut scratch = [0u8; 65520];
-    let l = audit::audit(log, tail, &mut scratch);
+    let l = audit::audit(dir, log, tail, &mut scratch);
     let a = l.answer;
     match a {
         Checked::Refused(r) => {
@@ -18,8 +24,8 @@ fn report(log: &[u8]) {
             printing::line_end();
         }
         Checked::Done => {
-            outcomes::print(log, tail);
-            cells::print(l.record, &scratch);
+            outcomes::print(dir, log, tail);
+            cells::print(dir, l.record, &scratch);
         }
     }
 }
@@ -32,5 +38,7 @@ fn main() {
         printing::line_end();
         return;
     }
-    report(&buffer[..n]);
+    let mut dir = [0u8; EIGHT_SIZE];
+    directory::eight::write_eight(&mut dir);
+    report(&dir, &buffer[..n]);
 }

@@ -1,8 +1,13 @@
 // Words and numbers on standard output, as the programs print them.
 ghost use mathlib.Core.Path.{_≡_};
+use answers::Checked;
 use answers::Refusal;
 use answers::Told;
+use codec::cells::Content;
+use codec::cells::Written;
+use codec::marks::Mark;
 use records::Record;
+use table::rows::Held;
 
 pub fn number(n: u64) {
     io::print_decimal(1, n);
@@ -45,16 +50,66 @@ pub fn next_refusal(r: Refusal) {
     refusal(r);
 }
 
-// A byte in 64 bits.
-pub fn byte(n: u8) -> u64
-    ensures { λ r. ⌜ r ≡ n ⌝ }
-{
-    n as u64
-}
-
 // The three numbers of a record, each after a space.
 pub fn next_record(r: Record) {
-    next(byte(r.hosted));
+    next(r.hosted);
     next(r.position);
     next(r.count);
+}
+
+// An answer that tells nothing more, after a space.
+pub fn next_checked(c: Checked) {
+    match c {
+        Checked::Done => {
+            io::write_all(1, b" done");
+        }
+        Checked::Refused(r) => next_refusal(r),
+    }
+}
+
+// The number of an entry's kind.
+pub fn kind(m: Mark) -> u64 {
+    match m {
+        Mark::Update => 1,
+        Mark::Commit => 2,
+        Mark::Decision => 3,
+        Mark::Checkpoint => 4,
+        Mark::Bad => 0,
+    }
+}
+
+fn next_written(w: Written) {
+    let v = w.version;
+    let c = w.content;
+    match c {
+        Content::Removed => {
+            io::write_all(1, b" removed");
+        }
+        Content::Value(x) => {
+            io::write_all(1, b" value");
+            next(wide(x));
+        }
+    }
+    next(v.0);
+}
+
+// What a cell holds, after a space.
+pub fn next_held(h: Held) {
+    match h {
+        Held::Never => {
+            io::write_all(1, b" never");
+        }
+        Held::Written(w) => next_written(w),
+    }
+}
+
+// The bytes as numbers of 4 bytes, each after a space, to the end of the line; a last part of fewer than 4 bytes is left out.
+pub fn words(s: &[u8]) {
+    let n = s.len() / 4;
+    let mut k = 0;
+    while k < n {
+        next(wide(codec::bytes::be32(s, 4 * k)));
+        k += 1;
+    }
+    line_end();
 }

@@ -1,6 +1,6 @@
 // The appends. Done, the first value is the new tail; refused, the log is as it was.
 ghost use mathlib.Core.Path.{_≡_};
-ghost use Rattle.model.specs.Objects.{depots};
+ghost use Rattle.model.specs.Directory.{shapeOf};
 ghost use Rattle.model.specs.Append as model;
 ghost use Rattle.append.specs.Answers.{tailIn};
 ghost use Rattle.stocklog.specs.Replies.{numberReply, appendReply};
@@ -24,67 +24,71 @@ fn of_appended(a: Appended) -> Numbers
 // An update, plain or of a transaction.
 #[no_mangle]
 pub extern "C" fn stocklog_append_update(
+    dir: &[u8],
     log: &mut [u8],
     tail: usize,
     number: u32,
     items: &[u8],
     out: &mut [u64; 4],
 ) -> u32
-    ensures { λ r. ⌜ record { reply = record { number = r; out = now (out .exit) }; lent = now (log .exit) } ≡ appendReply (model.append depots (now (log .entry)) tail (model.update number (now (items .entry)))) ⌝ }
+    ensures { λ r. ⌜ record { reply = record { number = r; out = now (out .exit) }; lent = now (log .exit) } ≡ appendReply (model.append (shapeOf (now (dir .entry))) (now (log .entry)) tail (model.update number (now (items .entry)))) ⌝ }
 {
-    let a = append::update::update(log, tail, TxNumber(number), items);
+    let a = append::update::update(dir, log, tail, TxNumber(number), items);
     crate::numbers::put(out, of_appended(a))
 }
 
 // A transaction's commit record.
 #[no_mangle]
 pub extern "C" fn stocklog_append_commit(
+    dir: &[u8],
     log: &mut [u8],
     tail: usize,
     number: u32,
     reads: &[u8],
     out: &mut [u64; 4],
 ) -> u32
-    ensures { λ r. ⌜ record { reply = record { number = r; out = now (out .exit) }; lent = now (log .exit) } ≡ appendReply (model.append depots (now (log .entry)) tail (model.commits number (now (reads .entry)))) ⌝ }
+    ensures { λ r. ⌜ record { reply = record { number = r; out = now (out .exit) }; lent = now (log .exit) } ≡ appendReply (model.append (shapeOf (now (dir .entry))) (now (log .entry)) tail (model.commits number (now (reads .entry)))) ⌝ }
 {
-    let a = append::commit::commit(log, tail, TxNumber(number), reads);
+    let a = append::commit::commit(dir, log, tail, TxNumber(number), reads);
     crate::numbers::put(out, of_appended(a))
 }
 
 // The outcome of a commit record.
 #[no_mangle]
 pub extern "C" fn stocklog_append_decision(
+    dir: &[u8],
     log: &mut [u8],
     tail: usize,
     offset: u64,
     outcome: u32,
     out: &mut [u64; 4],
 ) -> u32
-    ensures { λ r. ⌜ record { reply = record { number = r; out = now (out .exit) }; lent = now (log .exit) } ≡ appendReply (model.append depots (now (log .entry)) tail (model.decides offset outcome)) ⌝ }
+    ensures { λ r. ⌜ record { reply = record { number = r; out = now (out .exit) }; lent = now (log .exit) } ≡ appendReply (model.append (shapeOf (now (dir .entry))) (now (log .entry)) tail (model.decides offset outcome)) ⌝ }
 {
-    let a = append::decision::decision(log, tail, Offset(offset), outcome);
+    let a = append::decision::decision(dir, log, tail, Offset(offset), outcome);
     crate::numbers::put(out, of_appended(a))
 }
 
 // The cells of one object of a replica.
 #[no_mangle]
 pub extern "C" fn stocklog_append_checkpoint(
+    dir: &[u8],
     log: &mut [u8],
     tail: usize,
-    hosted: u8,
+    hosted: u64,
     position: u64,
     count: u64,
     table: &[u8],
     object: u32,
     out: &mut [u64; 4],
 ) -> u32
-    ensures { λ r. ⌜ record { reply = record { number = r; out = now (out .exit) }; lent = now (log .exit) } ≡ appendReply (model.append depots (now (log .entry)) tail (model.saves (record { hosting = hosted; position = position; count = count }) (now (table .entry)) object)) ⌝ }
+    ensures { λ r. ⌜ record { reply = record { number = r; out = now (out .exit) }; lent = now (log .exit) } ≡ appendReply (model.append (shapeOf (now (dir .entry))) (now (log .entry)) tail (model.saves (record { hosting = hosted; position = position; count = count }) (now (table .entry)) object)) ⌝ }
 {
     let r = Record {
         hosted: hosted,
         position: position,
         count: count,
     };
-    let a = append::checkpoint::checkpoint(log, tail, r, table, ObjectId(object));
+    let a = append::checkpoint::checkpoint(dir, log, tail, r, table, ObjectId(object));
     crate::numbers::put(out, of_appended(a))
 }

@@ -1,6 +1,6 @@
 // The calls that read one entry: its fields, one of its headers, where its items lie.
 ghost use mathlib.Core.Path.{_≡_};
-ghost use Rattle.model.specs.Objects.{depots};
+ghost use Rattle.model.specs.Directory.{shapeOf};
 ghost use Rattle.model.specs.Reading.{entryCall, itemList};
 ghost use Rattle.codec.specs.Eight.{logOf};
 ghost use Rattle.codec.specs.Marks.{kindOf};
@@ -53,10 +53,16 @@ fn items_of(f: Found) -> u64
 
 // Kind, number and how many headers; in the fifth place how many items.
 #[no_mangle]
-pub extern "C" fn stocklog_entry(log: &[u8], tail: usize, offset: u64, out: &mut [u64; 8]) -> u32
-    ensures { λ r. ⌜ record { number = r; out = now (out .exit) } ≡ entryReply (entryCall depots (logOf (now (log .entry)) tail) offset) ⌝ }
+pub extern "C" fn stocklog_entry(
+    dir: &[u8],
+    log: &[u8],
+    tail: usize,
+    offset: u64,
+    out: &mut [u64; 8],
+) -> u32
+    ensures { λ r. ⌜ record { number = r; out = now (out .exit) } ≡ entryReply (entryCall (shapeOf (now (dir .entry))) (logOf (now (log .entry)) tail) offset) ⌝ }
 {
-    let f = entries::calls::entry(log, tail, Offset(offset));
+    let f = entries::calls::entry(dir, log, tail, Offset(offset));
     crate::numbers::put_eight(out, of_entry(f), items_of(f))
 }
 
@@ -96,25 +102,32 @@ fn of_found(f: Found, place: u32) -> Numbers
 // Object, format and the 8 bytes of a header by its place.
 #[no_mangle]
 pub extern "C" fn stocklog_header(
+    dir: &[u8],
     log: &[u8],
     tail: usize,
     offset: u64,
     place: u32,
     out: &mut [u64; 4],
 ) -> u32
-    ensures { λ r. ⌜ record { number = r; out = now (out .exit) } ≡ headerReply (headerCall depots (logOf (now (log .entry)) tail) offset place) ⌝ }
+    ensures { λ r. ⌜ record { number = r; out = now (out .exit) } ≡ headerReply (headerCall (shapeOf (now (dir .entry))) (logOf (now (log .entry)) tail) offset place) ⌝ }
 {
-    let f = entries::calls::entry(log, tail, Offset(offset));
+    let f = entries::calls::entry(dir, log, tail, Offset(offset));
     crate::numbers::put(out, of_found(f, place))
 }
 
 // Where the items lie in the log: byte position and length. That part of the log's own bytes is the item list.
 #[no_mangle]
-pub extern "C" fn stocklog_items(log: &[u8], tail: usize, offset: u64, out: &mut [u64; 4]) -> u32
-    ensures { λ r. ⌜ record { number = r; out = now (out .exit) } ≡ itemsReply offset (entryCall depots (logOf (now (log .entry)) tail) offset) ⌝ }
-    ensures { λ r. ⌜ partSaid (record { number = r; out = now (out .exit) }) (now (log .entry)) ≡ itemList depots (logOf (now (log .entry)) tail) offset ⌝ }
+pub extern "C" fn stocklog_items(
+    dir: &[u8],
+    log: &[u8],
+    tail: usize,
+    offset: u64,
+    out: &mut [u64; 4],
+) -> u32
+    ensures { λ r. ⌜ record { number = r; out = now (out .exit) } ≡ itemsReply offset (entryCall (shapeOf (now (dir .entry))) (logOf (now (log .entry)) tail) offset) ⌝ }
+    ensures { λ r. ⌜ partSaid (record { number = r; out = now (out .exit) }) (now (log .entry)) ≡ itemList (shapeOf (now (dir .entry))) (logOf (now (log .entry)) tail) offset ⌝ }
 {
-    let f = entries::calls::entry(log, tail, Offset(offset));
+    let f = entries::calls::entry(dir, log, tail, Offset(offset));
     match f {
         Found::Refused(r) => {
             return crate::numbers::put(out, crate::numbers::refusal(r, 0, 0, 0));

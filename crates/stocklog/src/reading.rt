@@ -1,6 +1,6 @@
 // The calls that read a whole log.
 ghost use mathlib.Core.Path.{_≡_};
-ghost use Rattle.model.specs.Objects.{depots};
+ghost use Rattle.model.specs.Directory.{shapeOf};
 ghost use Rattle.model.specs.Reading.{check, owed};
 ghost use Rattle.codec.specs.Eight.{logOf};
 ghost use Rattle.entries.specs.Answers.{owedIn};
@@ -22,10 +22,10 @@ fn of_check(c: Checked) -> Numbers
 
 // The frame and every entry below the tail.
 #[no_mangle]
-pub extern "C" fn stocklog_check(log: &[u8], tail: usize, out: &mut [u64; 4]) -> u32
-    ensures { λ r. ⌜ record { number = r; out = now (out .exit) } ≡ checkReply (check depots (logOf (now (log .entry)) tail)) ⌝ }
+pub extern "C" fn stocklog_check(dir: &[u8], log: &[u8], tail: usize, out: &mut [u64; 4]) -> u32
+    ensures { λ r. ⌜ record { number = r; out = now (out .exit) } ≡ checkReply (check (shapeOf (now (dir .entry))) (logOf (now (log .entry)) tail)) ⌝ }
 {
-    crate::numbers::put(out, of_check(entries::calls::check(log, tail)))
+    crate::numbers::put(out, of_check(entries::calls::check(dir, log, tail)))
 }
 
 fn of_owed(o: Owed) -> Numbers
@@ -40,8 +40,8 @@ fn of_owed(o: Owed) -> Numbers
 
 // 1 and the lowest offset that owes a decision record; or 0.
 #[no_mangle]
-pub extern "C" fn stocklog_owed(log: &[u8], tail: usize, out: &mut [u64; 4]) -> u32
-    ensures { λ r. ⌜ record { number = r; out = now (out .exit) } ≡ owedReply (owed depots (logOf (now (log .entry)) tail)) ⌝ }
+pub extern "C" fn stocklog_owed(dir: &[u8], log: &[u8], tail: usize, out: &mut [u64; 4]) -> u32
+    ensures { λ r. ⌜ record { number = r; out = now (out .exit) } ≡ owedReply (owed (shapeOf (now (dir .entry))) (logOf (now (log .entry)) tail)) ⌝ }
 {
-    crate::numbers::put(out, of_owed(entries::owing::lowest_owing(log, tail)))
+    crate::numbers::put(out, of_owed(entries::owing::lowest_owing(dir, log, tail)))
 }

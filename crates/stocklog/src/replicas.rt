@@ -1,7 +1,7 @@
 // The calls on a replica, and the audit. A record comes as three numbers and goes out as three numbers.
 ghost use mathlib.Core.Path.{_≡_};
 ghost use mathlib.Core.Option.{some};
-ghost use Rattle.model.specs.Objects.{depots};
+ghost use Rattle.model.specs.Directory.{shapeOf};
 ghost use Rattle.model.specs.Replica.{openFresh, openAt, playCall, readCell, audit};
 ghost use Rattle.codec.specs.Eight.{logOf};
 ghost use Rattle.codec.specs.Cells.{heldOf};
@@ -26,17 +26,17 @@ fn of_opened(o: Opened) -> Numbers
     ensures { λ m. ⌜ numbersIn m ≡ openReply (openedIn o) ⌝ }
 {
     match o {
-        Opened::Replica(r) => crate::numbers::done(r.hosted as u64, r.position, r.count),
+        Opened::Replica(r) => crate::numbers::done(r.hosted, r.position, r.count),
         Opened::Refused(r) => crate::numbers::refusal(r, 0, 0, 0),
     }
 }
 
 // A replica of a set at offset 0.
 #[no_mangle]
-pub extern "C" fn stocklog_open_fresh(hosted: u8, out: &mut [u64; 4]) -> u32
-    ensures { λ r. ⌜ record { number = r; out = now (out .exit) } ≡ openReply (openFresh depots hosted) ⌝ }
+pub extern "C" fn stocklog_open_fresh(dir: &[u8], hosted: u64, out: &mut [u64; 4]) -> u32
+    ensures { λ r. ⌜ record { number = r; out = now (out .exit) } ≡ openReply (openFresh (shapeOf (now (dir .entry))) hosted) ⌝ }
 {
-    crate::numbers::put(out, of_opened(replica::opening::open_fresh(hosted)))
+    crate::numbers::put(out, of_opened(replica::opening::open_fresh(dir, hosted)))
 }
 
 // The record is said with every answer.
@@ -46,46 +46,48 @@ fn of_left(l: Left) -> Numbers
     let r = l.record;
     let a = l.answer;
     match a {
-        Checked::Done => crate::numbers::done(r.hosted as u64, r.position, r.count),
-        Checked::Refused(x) => crate::numbers::refusal(x, r.hosted as u64, r.position, r.count),
+        Checked::Done => crate::numbers::done(r.hosted, r.position, r.count),
+        Checked::Refused(x) => crate::numbers::refusal(x, r.hosted, r.position, r.count),
     }
 }
 
 // A replica opened at the checkpoint at an offset.
 #[no_mangle]
 pub extern "C" fn stocklog_open_checkpoint(
+    dir: &[u8],
     log: &[u8],
     tail: usize,
     offset: u64,
     table: &mut [u8],
     out: &mut [u64; 4],
 ) -> u32
-    ensures { λ r. ⌜ record { reply = record { number = r; out = now (out .exit) }; lent = now (table .exit) } ≡ leftReply (openAt depots (logOf (now (log .entry)) tail) offset (now (table .entry))) ⌝ }
+    ensures { λ r. ⌜ record { reply = record { number = r; out = now (out .exit) }; lent = now (table .exit) } ≡ leftReply (openAt (shapeOf (now (dir .entry))) (logOf (now (log .entry)) tail) offset (now (table .entry))) ⌝ }
 {
-    let l = replica::restoring::open_at(log, tail, offset, table);
+    let l = replica::restoring::open_at(dir, log, tail, offset, table);
     crate::numbers::put(out, of_left(l))
 }
 
 // A replica played from its position to a stop.
 #[no_mangle]
 pub extern "C" fn stocklog_play(
+    dir: &[u8],
     log: &[u8],
     tail: usize,
-    hosted: u8,
+    hosted: u64,
     position: u64,
     count: u64,
     table: &mut [u8],
     stop: u64,
     out: &mut [u64; 4],
 ) -> u32
-    ensures { λ r. ⌜ record { reply = record { number = r; out = now (out .exit) }; lent = now (table .exit) } ≡ leftReply (playCall depots (logOf (now (log .entry)) tail) (record { hosting = hosted; position = position; count = count }) (now (table .entry)) stop) ⌝ }
+    ensures { λ r. ⌜ record { reply = record { number = r; out = now (out .exit) }; lent = now (table .exit) } ≡ leftReply (playCall (shapeOf (now (dir .entry))) (logOf (now (log .entry)) tail) (record { hosting = hosted; position = position; count = count }) (now (table .entry)) stop) ⌝ }
 {
     let r = Record {
         hosted: hosted,
         position: position,
         count: count,
     };
-    let l = replica::playing::play(log, tail, r, table, stop);
+    let l = replica::playing::play(dir, log, tail, r, table, stop);
     crate::numbers::put(out, of_left(l))
 }
 
@@ -122,7 +124,8 @@ fn of_reading(a: Reading) -> Numbers
 // What a replica shows for a cell.
 #[no_mangle]
 pub extern "C" fn stocklog_read_cell(
-    hosted: u8,
+    dir: &[u8],
+    hosted: u64,
     position: u64,
     count: u64,
     table: &[u8],
@@ -130,27 +133,28 @@ pub extern "C" fn stocklog_read_cell(
     key: u32,
     out: &mut [u64; 4],
 ) -> u32
-    ensures { λ r. ⌜ record { number = r; out = now (out .exit) } ≡ cellReply (readCell depots (record { hosting = hosted; position = position; count = count }) (now (table .entry)) object key) ⌝ }
+    ensures { λ r. ⌜ record { number = r; out = now (out .exit) } ≡ cellReply (readCell (shapeOf (now (dir .entry))) (record { hosting = hosted; position = position; count = count }) (now (table .entry)) object key) ⌝ }
 {
     let r = Record {
         hosted: hosted,
         position: position,
         count: count,
     };
-    let a = replica::cells::read_cell(r, table, ObjectId(object), key);
+    let a = replica::cells::read_cell(dir, r, table, ObjectId(object), key);
     crate::numbers::put(out, of_reading(a))
 }
 
 // The audit's play as a record, with 11 and 13 too.
 #[no_mangle]
 pub extern "C" fn stocklog_audit(
+    dir: &[u8],
     log: &[u8],
     tail: usize,
     scratch: &mut [u8],
     out: &mut [u64; 4],
 ) -> u32
-    ensures { λ r. ⌜ record { reply = record { number = r; out = now (out .exit) }; lent = now (scratch .exit) } ≡ leftReply (audit depots (logOf (now (log .entry)) tail) (now (scratch .entry))) ⌝ }
+    ensures { λ r. ⌜ record { reply = record { number = r; out = now (out .exit) }; lent = now (scratch .exit) } ≡ leftReply (audit (shapeOf (now (dir .entry))) (logOf (now (log .entry)) tail) (now (scratch .entry))) ⌝ }
 {
-    let l = audit::audit(log, tail, scratch);
+    let l = audit::audit(dir, log, tail, scratch);
     crate::numbers::put(out, of_left(l))
 }

@@ -1,20 +1,24 @@
 -- Rows counted one after the other, and the counts of an index when it has one row more: the counted places are all different.
 use mathlib.Core.Path.{_≡_, refl, ap, ap₂, sym, _∙_}
-use mathlib.Core.Bool.{Bool, true, false, cond, not, _&&_}
+use mathlib.Core.Bool.{Bool, true, false, cond}
 use mathlib.Core.List.{List, [], _∷_, _++_}
 use Prim.Native.Nat.{ℕ, suc, _+_, _-_, _*_, _≤_, _<_}
 use native.Mathlib.Omega.{arith}
-use lib.Dec.{eqb, leb}
+use lib.Dec.{eqb}
 use lib.ListN.{length, getD, set, length-set}
 use lib.Seq.{getD-set-same, getD-set-other}
-use borrow.Author.Tests.{leb-true, le-leb}
-use Rattle.lists.specs.Tests.{and-l, and-r}
+use borrow.Author.Tests.{eqb-true, eqb-false, eq-eqb}
+use Rattle.lists.specs.Tests.{clash}
 use Rattle.lists.specs.Rows.{values-snoc}
+use Rattle.model.specs.Objects.{isObject}
+use Rattle.model.specs.Directory.{shapeOf, mostRecords}
 use Rattle.model.specs.Table.{Cell, cellAt, cellSize}
+use Rattle.laws.specs.Ruled.{Ruled, records, PlaceOf}
+use Rattle.laws.proofs.ByPlace.{idOf, apart, object-at, whole, few-records}
 use Rattle.table.specs.Order.{rowsOf, ofObject, OrderedRows}
 use Rattle.table.specs.RowsOf.{length-rows, cells-stretch}
 use Rattle.table.specs.Stretches.{object-le}
-use Rattle.table.specs.Runs.{used, counted, countAt, Standing, standing, TwoRuns}
+use Rattle.table.specs.Runs.{used, leastIndex, countAt, Standing, standing, TwoRuns}
 use Rattle.table.specs.Placing.{Noted}
 
 -- ---- rows
@@ -73,23 +77,6 @@ counting-all {t} {from} {to} {o} {n} {i} c l =
     let e : i ≡ to = omega arith in
     c .sum ∙ ap (λ (x : ℕ). length (ofObject o (rowsOf t from (x - from)))) e
 
--- ---- objects with a count
-
-module _ (o : ℕ) (r : Bool) (e : r ≡ (leb 1 o && leb o counted)) where
-  pub no-count : not r ≡ true → 1 ≤ o → o ≤ counted → ⊥
-  no-count f l h = no r (e ∙ ap₂ _&&_ (le-leb 1 o l) (le-leb o counted h)) f
-    where
-      no : (b : Bool) → b ≡ true → not b ≡ true → ⊥
-      no true p q = let z : suc 0 ≡ 0 = cc in omega arith
-      no false p q = let z : suc 0 ≡ 0 = cc in omega arith
-
-  pub some-count : not r ≡ false → (1 ≤ o) × (o ≤ counted)
-  some-count f = (leb-true 1 o (and-l (leb 1 o) (leb o counted) (sym e ∙ yes r f)), leb-true o counted (and-r (leb 1 o) (leb o counted) (sym e ∙ yes r f)))
-    where
-      yes : (b : Bool) → not b ≡ false → b ≡ true
-      yes true g = refl
-      yes false g = sym g
-
 -- ---- the two runs
 
 -- a search in the main run
@@ -108,42 +95,63 @@ used-within t count x two =
 
 -- ---- one row more
 
-module _ (x : List ℕ) (long : 64 ≤ length x) (o : ℕ) where
+module _ {d : List ℕ} (r : Ruled d) (x : List ℕ) (long : leastIndex ≤ length x) (o k : ℕ) (p : PlaceOf d o k) where
   abbrev more : List ℕ
   more = set x (length x - 1) (used x + 1)
 
-  pub noted-all : (1 ≤ o → o ≤ counted → ⊥) → Noted x more o
+  -- the directory does not list the object
+  pub noted-all : records d ≤ k → Noted d x more o
   noted-all none = record {
     size = size;
     before = λ i l. getD-set-other x (length x - 1) i (used x + 1) 0 (λ e. omega arith);
     all = ap (λ (n : ℕ). getD more (n - 1) 0) size ∙ getD-set-same x (length x - 1) (used x + 1) 0 (omega arith);
-    own = λ l h. absurd (none l h);
-    others = λ q l h d. getD-set-other x (length x - 1) (countAt x q) (used x + 1) 0 (λ e. omega arith);
+    own = λ q h e. clash (isObject (shapeOf d) o) (ap (isObject (shapeOf d)) (sym e) ∙ object-at d (records d) (whole r) q h) (p .nowhere (omega (arith, p .below)));
+    others = λ q h e. getD-set-other x (length x - 1) (countAt x q) (used x + 1) 0 (λ e. omega (arith, few-records r));
   }
     where
       size : length more ≡ length x
       size = length-set x (length x - 1) (used x + 1)
 
-  pub noted-both : 1 ≤ o → o ≤ counted → Noted x (set more (countAt x o) (getD more (countAt x o) 0 + 1)) o
-  noted-both low high = record {
+  pub noted-both : k < records d → Noted d x (set more (countAt x k) (getD more (countAt x k) 0 + 1)) o
+  noted-both there = record {
     size = size;
     before = λ i l. other i (λ e. omega arith) ∙ first i (λ e. omega arith);
-    all = ap (λ (n : ℕ). getD y (n - 1) 0) size ∙ other (length x - 1) (λ e. omega arith) ∙ getD-set-same x (length x - 1) (used x + 1) 0 (omega arith);
-    own = λ l h. getD-set-same more (countAt x o) (getD more (countAt x o) 0 + 1) 0 (omega (arith, wide)) ∙ ap (λ (n : ℕ). n + 1) (first (countAt x o) (λ e. omega arith));
-    others = λ q l h d. other (countAt x q) (λ e. d (omega arith)) ∙ first (countAt x q) (λ e. omega arith);
+    all = ap (λ (n : ℕ). getD y (n - 1) 0) size ∙ other (length x - 1) (λ e. omega (arith, few)) ∙ getD-set-same x (length x - 1) (used x + 1) 0 (omega arith);
+    own = λ q h e. ap (λ (j : ℕ). getD y (countAt x j) 0) (same q h e) ∙ counted ∙ ap (λ (j : ℕ). getD x (countAt x j) 0 + 1) (sym (same q h e));
+    others = λ q h e.
+        other (countAt x q) (λ i. let j : q ≡ k = omega arith in e (ap (idOf d) j ∙ p .there there))
+        ∙ first (countAt x q) (λ i. omega (arith, few-records r));
   }
     where
       y : List ℕ
-      y = set more (countAt x o) (getD more (countAt x o) 0 + 1)
+      y = set more (countAt x k) (getD more (countAt x k) 0 + 1)
+
+      few : k < mostRecords
+      few = omega (arith, few-records r)
 
       wide : length more ≡ length x
       wide = length-set x (length x - 1) (used x + 1)
 
       size : length y ≡ length x
-      size = length-set more (countAt x o) (getD more (countAt x o) 0 + 1) ∙ wide
+      size = length-set more (countAt x k) (getD more (countAt x k) 0 + 1) ∙ wide
 
       first : (i : ℕ) → (i ≡ length x - 1 → ⊥) → getD more i 0 ≡ getD x i 0
       first i d = getD-set-other x (length x - 1) i (used x + 1) 0 d
 
-      other : (i : ℕ) → (i ≡ countAt x o → ⊥) → getD y i 0 ≡ getD more i 0
-      other i d = getD-set-other more (countAt x o) i (getD more (countAt x o) 0 + 1) 0 d
+      other : (i : ℕ) → (i ≡ countAt x k → ⊥) → getD y i 0 ≡ getD more i 0
+      other i d = getD-set-other more (countAt x k) i (getD more (countAt x k) 0 + 1) 0 d
+
+      counted : getD y (countAt x k) 0 ≡ getD x (countAt x k) 0 + 1
+      counted =
+          getD-set-same more (countAt x k) (getD more (countAt x k) 0 + 1) 0 (omega (arith, wide, few))
+          ∙ ap (λ (n : ℕ). n + 1) (first (countAt x k) (λ e. omega (arith, few)))
+
+      -- it has one place
+      same : (q : ℕ) → q < records d → idOf d q ≡ o → q ≡ k
+      same q h e = go (eqb q k) refl
+        where
+          go : (t : Bool) → eqb q k ≡ t → q ≡ k
+          go true i = eqb-true q k i
+          go false i =
+              clash (eqb (idOf d q) (idOf d k)) (eq-eqb (idOf d q) (idOf d k) (e ∙ sym (p .there there)))
+              (apart d (records d) (whole r) q k h there (eqb-false q k i))

@@ -11,6 +11,8 @@ use Rattle.lists.specs.Bytes.{beAt}
 use lib.ListN.{length, getD, replicate, length-map, length-replicate, getD-replicate, List·getD-map}
 use Rattle.lists.specs.Sets.{all}
 use Rattle.model.specs.Table.{Cell, isOf, cellAt, cellSize}
+use Rattle.laws.specs.Ruled.{Ruled}
+use Rattle.laws.proofs.ByPlace.{idOf, few-records}
 use Rattle.laws.proofs.CellOrder.{of-itself}
 use Rattle.laws.proofs.Ordered.{once}
 use Rattle.tree.specs.Form.{head-formed}
@@ -25,7 +27,7 @@ use Rattle.table.specs.Ranks.{rank-at, is-rank, key-small}
 use Rattle.table.specs.RowsOf.{length-rows, row-of}
 use Rattle.table.specs.Seek.{headOf, cellForm, rankAt, RowTree, CellPlace}
 use Rattle.table.specs.SeekLaws.{head-below, place-row}
-use Rattle.table.specs.Runs.{headsIn, mostNew, countAt, rankIn, Indexed}
+use Rattle.table.specs.Runs.{headsIn, mostNew, leastIndex, countAt, rankIn, Indexed, Counts, CountedIndex}
 use Rattle.table.specs.Stores.{bare}
 
 -- ---- ranks
@@ -49,8 +51,7 @@ rank-row t main n i l =
 -- ---- none, and another hint
 
 -- an array of zeros is an index of no rows
-pub indexed-zeros : (n : ℕ) → 64 ≤ n → n < 4294967296 → Indexed (replicate n 0) []
-unfolding ofObject
+pub indexed-zeros : (n : ℕ) → leastIndex ≤ n → n < 4294967296 → Indexed (replicate n 0) []
 indexed-zeros n l h =
     let x : List ℕ = replicate n 0 in
     let size : length x ≡ n = length-replicate {A = ℕ} n 0 in
@@ -59,7 +60,15 @@ indexed-zeros n l h =
       short = omega (arith, size);
       all = getD-replicate n (length x - 1) 0 0 (omega (arith, size));
       tree = tree-zeros (rankIn []) (mostNew x) n (head-formed (headsIn x) (headOf (headsIn x)) (λ k. head-below (headsIn x) k (omega (arith, size)))) (omega (arith, size)) (omega (arith, size));
-      counts = λ o a b. getD-replicate n (countAt x o) 0 0 (omega (arith, size));
+    }
+
+pub counted-zeros : {d : List ℕ} → Ruled d → (n : ℕ) → leastIndex ≤ n → n < 4294967296 → CountedIndex d (replicate n 0) []
+unfolding ofObject
+counted-zeros {d} r n l h =
+    let x : List ℕ = replicate n 0 in
+    record {
+      index = indexed-zeros n l h;
+      counts = record { ruled = r; each = λ k m. getD-replicate n (countAt x k) 0 0 (omega (arith, m, l, few-records r, length-replicate {A = ℕ} n 0)) };
     }
 
 -- an index goes by object and key alone
@@ -83,8 +92,10 @@ indexed-bare {x} b b′ e i =
       all = i .all ∙ sym n;
       tree = subst (λ (m : ℕ). Tree (rankIn b′) (cellForm (headsIn x)) (mostNew x) m x) (sym n)
           (subst (λ (y : List ℕ). Tree (λ j. getD y j 0) (cellForm (headsIn x)) (mostNew x) (length b) x) (sym r) (i .tree));
-      counts = λ o l h. i .counts o l h ∙ sym (objects o);
     }
+
+pub counts-bare : {d x : List ℕ} (b b′ : List Cell) → map bare b′ ≡ map bare b → Counts d x b → Counts d x b′
+counts-bare {d} b b′ e c = record { ruled = c .ruled; each = λ k l. c .each k l ∙ sym (objects (idOf d k)) }
   where
     objects : (o : ℕ) → length (ofObject o b′) ≡ length (ofObject o b)
     objects o = sym (count-bare o b′) ∙ ap (λ (c : List Cell). length (ofObject o c)) e ∙ count-bare o b

@@ -24,12 +24,12 @@ use Rattle.laws.proofs.Sorted.{length-insert, all-insert}
 use Rattle.table.specs.Rows.{rowIn, RowPut}
 use Rattle.table.specs.Stored.{row-replaced, length-tableWith}
 use Rattle.table.specs.Order.{rowsOf, behind}
-use Rattle.table.specs.Runs.{merged, apart, Runs, Standing, Indexed, mainRun, secondRun, bothRuns, TwoRuns, LeftAs, Ended, CellToAdd}
+use Rattle.table.specs.Runs.{merged, apart, Runs, Standing, Indexed, Counts, CountedIndex, mainRun, secondRun, bothRuns, TwoRuns, LeftAs, Ended, CellToAdd}
 use Rattle.table.specs.Ordered.{orRow, row-append, none-append, row-found}
 use Rattle.table.specs.RowsOf.{length-rows, runs-rows}
 use Rattle.table.specs.Moves.{take-cells, drop-cells, rows-put}
 use Rattle.table.specs.Inserted.{none-first, none-cons}
-use Rattle.table.specs.Indexing.{indexed-bare}
+use Rattle.table.specs.Indexing.{indexed-bare, counts-bare}
 use Rattle.table.specs.Merged.{length-merged, none-merged, ordered-merged, apart-none}
 use Rattle.table.specs.Stores.{store-new, store-set, store-second, store-last, store-main, same-bare, runs-bare}
 
@@ -115,10 +115,10 @@ once-last (d ∷ b) c e z =
 
 -- ---- a table with the rows of two runs
 
-left-rows : (t t′ : List ℕ) (p q cs : List Cell) (s : Standing) → t′ ≡ tableWith t (p ++ q) → all fitsCell (p ++ q) ≡ true → length p ≡ s .main
-    → s .main + length q ≡ s .count → cellSize * s .count ≤ length t → Indexed (s .index) q → Runs p q → merged p q ≡ cs → LeftAs t t′ s cs
+left-rows : {d : List ℕ} (t t′ : List ℕ) (p q cs : List Cell) (s : Standing) → t′ ≡ tableWith t (p ++ q) → all fitsCell (p ++ q) ≡ true → length p ≡ s .main
+    → s .main + length q ≡ s .count → cellSize * s .count ≤ length t → CountedIndex d (s .index) q → Runs p q → merged p q ≡ cs → LeftAs d t t′ s cs
 unfolding bothRuns tableWith
-left-rows t t′ p q cs s e f lp lq room index runs c =
+left-rows {d} t t′ p q cs s e f lp lq room i runs c =
     let m : ℕ = s .main in
     let n : ℕ = s .count in
     let ln : length (p ++ q) ≡ n = length-append p q ∙ omega arith in
@@ -127,11 +127,14 @@ left-rows t t′ p q cs s e f lp lq room index runs c =
     let b : rowsOf t′ m (n - m) ≡ q = sym (drop-cells t′ m n (omega arith)) ∙ ap (drop m) all-rows ∙ drop-at p q m lp in
     let size : length t′ ≡ length t = ap length e ∙ length-tableWith t (p ++ q) (omega arith) in
     record {
-      two = record {
-        within = omega arith;
-        room = omega arith;
-        runs = rw (a, b) runs;
-        index = subst (Indexed (s .index)) (sym b) index;
+      counted = record {
+        two = record {
+          within = omega arith;
+          room = omega arith;
+          runs = rw (a, b) runs;
+          index = subst (Indexed (s .index)) (sym b) (i .index);
+        };
+        counts = subst (Counts d (s .index)) (sym b) (i .counts);
       };
       cells = ap₂ merged a b ∙ c;
       past =
@@ -183,8 +186,8 @@ module _ (t : List ℕ) (bytes : all (λ x. ltb x 256) t ≡ true) (s : Standing
       ∙ omega (arith, length-merged a₀ b₀, la₀, lb₀, two .within)
 
   -- a new row of the second run, and an index of one row more
-  pub left-added : (o k : ℕ) (h : Held) (t′ x : List ℕ) → CellToAdd t s o k → RowPut t t′ (s .count) (cellOf o k h)
-      → Indexed x (secondRun t s ++ (cellOf o k h ∷ [])) → LeftAs t t′ (record { main = s .main; count = s .count + 1; index = x }) (store (bothRuns t s) o k h)
+  pub left-added : {d : List ℕ} (o k : ℕ) (h : Held) (t′ x : List ℕ) → CellToAdd t s o k → RowPut t t′ (s .count) (cellOf o k h)
+      → CountedIndex d x (secondRun t s ++ (cellOf o k h ∷ [])) → LeftAs d t t′ (record { main = s .main; count = s .count + 1; index = x }) (store (bothRuns t s) o k h)
   unfolding bothRuns joined
   left-added o k h t′ x w f index =
       let n = cellOf o k h in
@@ -198,10 +201,10 @@ module _ (t : List ℕ) (bytes : all (λ x. ltb x 256) t ≡ true) (s : Standing
       (sym (store-last a₀ b₀ o k h (z .0) (z .1)))
 
   -- a row that is there, in either run
-  pub left-written : (o k : ℕ) (h : Held) (row : ℕ) (t′ : List ℕ) → row ≡ rowIn (cellsOf t (s .count)) o k → 1 ≤ row → RowPut t t′ (row - 1) (cellOf o k h)
-      → LeftAs t t′ s (store (bothRuns t s) o k h)
+  pub left-written : {d : List ℕ} → Counts d (s .index) (secondRun t s) → (o k : ℕ) (h : Held) (row : ℕ) (t′ : List ℕ) → row ≡ rowIn (cellsOf t (s .count)) o k → 1 ≤ row → RowPut t t′ (row - 1) (cellOf o k h)
+      → LeftAs d t t′ s (store (bothRuns t s) o k h)
   unfolding bothRuns
-  left-written o k h row t′ e l f = go (rowIn a₀ o k) refl (rowIn b₀ o k) refl
+  left-written {d} counts o k h row t′ e l f = go (rowIn a₀ o k) refl (rowIn b₀ o k) refl
     where
       n : Cell
       n = cellOf o k h
@@ -209,7 +212,7 @@ module _ (t : List ℕ) (bytes : all (λ x. ltb x 256) t ≡ true) (s : Standing
       row₀ : row ≡ orRow (rowIn a₀ o k) (behind (length a₀) (rowIn b₀ o k))
       row₀ = e ∙ ap (λ (x : List Cell). rowIn x o k) rows₀ ∙ row-append a₀ b₀ o k
 
-      go : (r : ℕ) → rowIn a₀ o k ≡ r → (q : ℕ) → rowIn b₀ o k ≡ q → LeftAs t t′ s (store (merged a₀ b₀) o k h)
+      go : (r : ℕ) → rowIn a₀ o k ≡ r → (q : ℕ) → rowIn b₀ o k ≡ q → LeftAs d t t′ s (store (merged a₀ b₀) o k h)
       go (suc i) p q u =
           let w = row-found a₀ o k i n p in
           let at : row ≡ suc i = row₀ ∙ ap (λ (x : ℕ). orRow x (behind (length a₀) (rowIn b₀ o k))) p in
@@ -219,7 +222,7 @@ module _ (t : List ℕ) (bytes : all (λ x. ltb x 256) t ≡ true) (s : Standing
           ∙ ap (λ (x : List Cell). tableWith t (set x i n)) rows₀ ∙ ap (tableWith t) (set-append-left a₀ b₀ i n (w .0)) in
           left-rows t t′ (set a₀ i n) b₀ (store (merged a₀ b₀) o k h) s put
           (all-append fitsCell (set a₀ i n) b₀ (all-set fitsCell a₀ i n (all-left fitsCell a₀ b₀ fit₀) (f .fits)) (all-right fitsCell a₀ b₀ fit₀))
-          (length-set a₀ i n ∙ la₀) (omega (arith, lb₀, two .within)) (two .room) (two .index)
+          (length-set a₀ i n ∙ la₀) (omega (arith, lb₀, two .within)) (two .room) (record { index = two .index; counts = counts })
           (runs-bare a₀ b₀ (set a₀ i n) b₀ (same-bare a₀ o k i h n (w .1)) refl (two .runs))
           (ap (λ (x : List Cell). merged x b₀) (sym (store-set a₀ o k h i (two .runs .main) p)) ∙ sym (store-main a₀ b₀ o k h (apart-none a₀ b₀ o k i (two .runs .alone) p)))
       go zero p (suc i) u =
@@ -231,7 +234,8 @@ module _ (t : List ℕ) (bytes : all (λ x. ltb x 256) t ≡ true) (s : Standing
           ∙ ap (λ (x : List Cell). tableWith t (set x (length a₀ + i) n)) rows₀ ∙ ap (tableWith t) (set-right a₀ b₀ i n) in
           left-rows t t′ a₀ (set b₀ i n) (store (merged a₀ b₀) o k h) s put
           (all-append fitsCell a₀ (set b₀ i n) (all-left fitsCell a₀ b₀ fit₀) (all-set fitsCell b₀ i n (all-right fitsCell a₀ b₀ fit₀) (f .fits)))
-          la₀ (omega (arith, length-set b₀ i n, lb₀, two .within)) (two .room) (indexed-bare b₀ (set b₀ i n) (same-bare b₀ o k i h n (w .1)) (two .index))
+          la₀ (omega (arith, length-set b₀ i n, lb₀, two .within)) (two .room)
+          (record { index = indexed-bare b₀ (set b₀ i n) (same-bare b₀ o k i h n (w .1)) (two .index); counts = counts-bare b₀ (set b₀ i n) (same-bare b₀ o k i h n (w .1)) counts })
           (runs-bare a₀ b₀ a₀ (set b₀ i n) refl (same-bare b₀ o k i h n (w .1)) (two .runs))
           (sym (store-second a₀ b₀ o k h i u))
       go zero p zero u =

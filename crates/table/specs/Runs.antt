@@ -9,6 +9,9 @@ use Rattle.lists.specs.Sets.{all}
 use Rattle.model.specs.Entries.{Held}
 use Rattle.model.specs.Table.{Cell, cellsOf, tableWith, inOrder, store, cellSize}
 use Rattle.laws.specs.FirstWriting.{insertCell}
+use Rattle.model.specs.Directory.{mostRecords}
+use Rattle.laws.specs.Ruled.{Ruled, records}
+use Rattle.laws.proofs.ByPlace.{idOf}
 use Rattle.laws.proofs.Ordered.{once}
 use Rattle.table.specs.Rows.{rowIn}
 use Rattle.tree.specs.Tree.{Tree}
@@ -60,7 +63,7 @@ bothRuns t s = merged (mainRun t s) (secondRun t s)
 -- ---- the index
 
 -- an index is a lent array. Its first quarter holds the heads of a tree, the second the children of its nodes, the third hints, which
--- may be any numbers. The last numbers of all count the rows: of each of the objects 1 to 8, and all.
+-- may be any numbers. The last numbers of all count the rows: of the object at each place of a directory, and all.
 abbrev pub headsIn : List ℕ → ℕ
 headsIn x = length x / 4
 
@@ -68,13 +71,13 @@ headsIn x = length x / 4
 abbrev pub mostNew : List ℕ → ℕ
 mostNew x = length x / 8
 
--- how many objects have a count of their own
-abbrev pub counted : ℕ
-counted = 8
+-- the shortest index: its last quarter has room for the counts
+abbrev pub leastIndex : ℕ
+leastIndex = 4 * (mostRecords + 1)
 
--- where the count of object o stands
+-- where the count of the object at place k stands
 abbrev pub countAt : List ℕ → ℕ → ℕ
-countAt x o = length x - (counted + 2) + o
+countAt x k = length x - (mostRecords + 1) + k
 
 -- the rank of the row at place i
 abbrev pub rankIn : List Cell → ℕ → ℕ
@@ -82,11 +85,20 @@ rankIn b i = getD (map (λ (c : Cell). rankOf (c .object) (c .key)) b) i 0
 
 -- an index of these rows: the node i is the row at place i
 pub record Indexed (x : List ℕ) (b : List Cell) : Type 0 where
-  pub long : 64 ≤ length x
+  pub long : leastIndex ≤ length x
   pub short : length x < 4294967296
   pub all : used x ≡ length b
   pub tree : Tree (rankIn b) (cellForm (headsIn x)) (mostNew x) (length b) x
-  pub counts : (o : ℕ) → 1 ≤ o → o ≤ counted → getD x (countAt x o) 0 ≡ length (ofObject o b)
+
+-- the counts of these rows, by the places of directory d
+pub record Counts (d x : List ℕ) (b : List Cell) : Type 0 where
+  pub ruled : Ruled d
+  pub each : (k : ℕ) → k < records d → getD x (countAt x k) 0 ≡ length (ofObject (idOf d k) b)
+
+-- an index with its counts
+pub record CountedIndex (d x : List ℕ) (b : List Cell) : Type 0 where
+  pub index : Indexed x b
+  pub counts : Counts d x b
 
 -- ---- what functions over two runs require and promise
 
@@ -96,9 +108,14 @@ pub record TwoRuns (t : List ℕ) (s : Standing) : Type 0 where
   pub runs : Runs (mainRun t s) (secondRun t s)
   pub index : Indexed (s .index) (secondRun t s)
 
+-- with the counts of the second
+pub record CountedRuns (d t : List ℕ) (s : Standing) : Type 0 where
+  pub two : TwoRuns t s
+  pub counts : Counts d (s .index) (secondRun t s)
+
 -- table t left as t′, with two runs of these cells and the bytes past the counted rows as they were
-pub record LeftAs (t t′ : List ℕ) (s : Standing) (cs : List Cell) : Type 0 where
-  pub two : TwoRuns t′ s
+pub record LeftAs (d t t′ : List ℕ) (s : Standing) (cs : List Cell) : Type 0 where
+  pub counted : CountedRuns d t′ s
   pub cells : bothRuns t′ s ≡ cs
   pub past : drop (cellSize * s .count) t′ ≡ drop (cellSize * s .count) t
 
@@ -109,14 +126,14 @@ pub record Ended (t t′ : List ℕ) (count : ℕ) (cs : List Cell) : Type 0 whe
   pub ascends : inOrder cs ≡ true
   pub size : length cs ≡ count
 
--- the two made one in the middle of a call, and an index x′ of no rows
+-- the two made one in the middle of a call, and an index x′ of no rows, whatever the directory
 pub record Renewed (t t′ : List ℕ) (s : Standing) (x′ : List ℕ) : Type 0 where
-  pub left : LeftAs t t′ (standing (s .count) x′) (bothRuns t s)
+  pub left : (d : List ℕ) → Ruled d → LeftAs d t t′ (standing (s .count) x′) (bothRuns t s)
   pub none : Indexed x′ []
 
 -- there is room for the cells once this one is written
-pub record CellToPut (t : List ℕ) (s : Standing) (o k : ℕ) (h : Held) : Type 0 where
-  pub two : TwoRuns t s
+pub record CellToPut (d t : List ℕ) (s : Standing) (o k : ℕ) (h : Held) : Type 0 where
+  pub counted : CountedRuns d t s
   pub room : cellSize * length (store (bothRuns t s) o k h) ≤ length t
 
 -- the cell has no row, and there is room for one in the second run

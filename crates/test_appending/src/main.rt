@@ -3,13 +3,23 @@
 // implementation.
 mod requests;
 
+// The directory of the eight objects has so many bytes.
+const EIGHT_SIZE: usize = 128;
+
 // The requests from a place on, one after the other; answers the place after them.
-fn all_requests(input: &[u8], at: usize, n: usize, log: &mut [u8], tail: usize) -> usize {
+fn all_requests(
+    dir: &[u8],
+    input: &[u8],
+    at: usize,
+    n: usize,
+    log: &mut [u8],
+    tail: usize,
+) -> usize {
     let mut a = at;
     let mut t = tail;
     let mut k = 0;
     while k < n {
-        let l = requests::request(input, a, log, t);
+        let l = requests::request(dir, input, a, log, t);
         a = l.at;
         t = l.tail;
         k += 1;
@@ -20,24 +30,18 @@ fn all_requests(input: &[u8], at: usize, n: usize, log: &mut [u8], tail: usize) 
 // The bytes of the log as numbers of 4 bytes.
 fn dump(log: &[u8]) {
     io::write_all(1, b"log");
-    let n = log.len() / 4;
-    let mut k = 0;
-    while k < n {
-        printing::next(printing::wide(codec::bytes::be32(log, 4 * k)));
-        k += 1;
-    }
-    printing::line_end();
+    printing::words(log);
 }
 
 // The requests, and the log that they left.
-fn run(input: &[u8], at: usize, n: usize, log: &mut [u8], tail: usize) -> usize {
-    let next = all_requests(input, at, n, log, tail);
+fn run(dir: &[u8], input: &[u8], at: usize, n: usize, log: &mut [u8], tail: usize) -> usize {
+    let next = all_requests(dir, input, at, n, log, tail);
     dump(log);
     next
 }
 
 // The case at a place, on a log of its own; answers the place after it.
-fn case(input: &[u8], at: usize) -> usize {
+fn case(dir: &[u8], input: &[u8], at: usize) -> usize {
     let tail = cases::word(input, at) as usize;
     let second = cases::after(input, at, 4);
     let size = cases::word(input, second) as usize;
@@ -52,13 +56,13 @@ fn case(input: &[u8], at: usize) -> usize {
     }
     codec::bytes::copy_in(&mut log, 0, bytes);
     let e = bytes.len();
-    run(input, fifth, n, &mut log[0..e], tail)
+    run(dir, input, fifth, n, &mut log[0..e], tail)
 }
 
-fn cases(input: &[u8]) {
+fn cases(dir: &[u8], input: &[u8]) {
     let mut at = 0;
     while at < input.len() {
-        let next = case(input, at);
+        let next = case(dir, input, at);
         if next <= at {
             return;
         }
@@ -69,5 +73,7 @@ fn cases(input: &[u8]) {
 fn main() {
     let mut buffer = [0u8; 262144];
     let n = io::read_full(0, &mut buffer);
-    cases(&buffer[..n]);
+    let mut dir = [0u8; EIGHT_SIZE];
+    directory::eight::write_eight(&mut dir);
+    cases(&dir, &buffer[..n]);
 }

@@ -28,42 +28,50 @@ fn answer(a: Appended, tail: usize) -> usize {
     }
 }
 
-fn update(log: &mut [u8], tail: usize, number: u32, items: &[u8]) -> usize {
+fn update(dir: &[u8], log: &mut [u8], tail: usize, number: u32, items: &[u8]) -> usize {
     io::write_all(1, b"update");
     answer(
-        append::update::update(log, tail, TxNumber(number), items),
+        append::update::update(dir, log, tail, TxNumber(number), items),
         tail,
     )
 }
 
-fn commit(log: &mut [u8], tail: usize, number: u32, items: &[u8]) -> usize {
+fn commit(dir: &[u8], log: &mut [u8], tail: usize, number: u32, items: &[u8]) -> usize {
     io::write_all(1, b"commit");
     answer(
-        append::commit::commit(log, tail, TxNumber(number), items),
+        append::commit::commit(dir, log, tail, TxNumber(number), items),
         tail,
     )
 }
 
-fn decision(log: &mut [u8], tail: usize, o: u64, outcome: u32) -> usize {
+fn decision(dir: &[u8], log: &mut [u8], tail: usize, o: u64, outcome: u32) -> usize {
     io::write_all(1, b"decision");
     answer(
-        append::decision::decision(log, tail, Offset(o), outcome),
+        append::decision::decision(dir, log, tail, Offset(o), outcome),
         tail,
     )
 }
 
-fn checkpoint(log: &mut [u8], tail: usize, r: Record, table: &[u8], object: u32) -> usize {
+fn checkpoint(
+    dir: &[u8],
+    log: &mut [u8],
+    tail: usize,
+    r: Record,
+    table: &[u8],
+    object: u32,
+) -> usize {
     io::write_all(1, b"checkpoint");
     answer(
-        append::checkpoint::checkpoint(log, tail, r, table, ObjectId(object)),
+        append::checkpoint::checkpoint(dir, log, tail, r, table, ObjectId(object)),
         tail,
     )
 }
 
 // The decision at a place.
-fn decision_at(input: &[u8], at: usize, log: &mut [u8], tail: usize) -> Left {
+fn decision_at(dir: &[u8], input: &[u8], at: usize, log: &mut [u8], tail: usize) -> Left {
     let second = cases::after(input, at, 8);
     let t = decision(
+        dir,
         log,
         tail,
         cases::long(input, at),
@@ -76,7 +84,7 @@ fn decision_at(input: &[u8], at: usize, log: &mut [u8], tail: usize) -> Left {
 }
 
 // The checkpoint at a place.
-fn checkpoint_at(input: &[u8], at: usize, log: &mut [u8], tail: usize) -> Left {
+fn checkpoint_at(dir: &[u8], input: &[u8], at: usize, log: &mut [u8], tail: usize) -> Left {
     let second = cases::after(input, at, 4);
     let third = cases::after(input, second, 8);
     let r = Record {
@@ -90,7 +98,7 @@ fn checkpoint_at(input: &[u8], at: usize, log: &mut [u8], tail: usize) -> Left {
     let n = cases::word(input, fifth) as usize;
     let sixth = cases::after(input, fifth, 4);
     let table = cases::part(input, sixth, n);
-    let t = checkpoint(log, tail, r, table, object);
+    let t = checkpoint(dir, log, tail, r, table, object);
     Left {
         at: cases::after(input, sixth, n),
         tail: t,
@@ -98,14 +106,14 @@ fn checkpoint_at(input: &[u8], at: usize, log: &mut [u8], tail: usize) -> Left {
 }
 
 // The request at a place of the input, made on a log.
-pub fn request(input: &[u8], at: usize, log: &mut [u8], tail: usize) -> Left {
+pub fn request(dir: &[u8], input: &[u8], at: usize, log: &mut [u8], tail: usize) -> Left {
     let kind = cases::word(input, at);
     let first = cases::after(input, at, 4);
     if kind == 3 {
-        return decision_at(input, first, log, tail);
+        return decision_at(dir, input, first, log, tail);
     }
     if kind == 4 {
-        return checkpoint_at(input, first, log, tail);
+        return checkpoint_at(dir, input, first, log, tail);
     }
     let number = cases::word(input, first);
     let second = cases::after(input, first, 4);
@@ -114,9 +122,9 @@ pub fn request(input: &[u8], at: usize, log: &mut [u8], tail: usize) -> Left {
     let items = cases::part(input, third, n);
     let end = cases::after(input, third, n);
     if kind == 1 {
-        let t = update(log, tail, number, items);
+        let t = update(dir, log, tail, number, items);
         return Left { at: end, tail: t };
     }
-    let t = commit(log, tail, number, items);
+    let t = commit(dir, log, tail, number, items);
     Left { at: end, tail: t }
 }

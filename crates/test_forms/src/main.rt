@@ -4,8 +4,11 @@
 mod runs;
 mod streams;
 
+// The directory of the eight objects has so many bytes.
+const EIGHT_SIZE: usize = 128;
+
 // The case at a place; answers the place after it.
-fn case(input: &[u8], at: usize) -> usize {
+fn case(dir: &[u8], input: &[u8], at: usize) -> usize {
     let kind = cases::word(input, at);
     let second = cases::after(input, at, 4);
     let size = cases::word(input, second) as usize;
@@ -15,16 +18,16 @@ fn case(input: &[u8], at: usize) -> usize {
     let n = cases::word(input, fourth);
     let fifth = cases::after(input, fourth, 4);
     if kind == 1 {
-        streams::all(log, n);
+        streams::all(dir, log, n);
         return fifth;
     }
-    runs::all(input, fifth, n as usize, log)
+    runs::all(dir, input, fifth, n as usize, log)
 }
 
-fn cases(input: &[u8]) {
+fn cases(dir: &[u8], input: &[u8]) {
     let mut at = 0;
     while at < input.len() {
-        let next = case(input, at);
+        let next = case(dir, input, at);
         if next <= at {
             return;
         }
@@ -35,5 +38,7 @@ fn cases(input: &[u8]) {
 fn main() {
     let mut buffer = [0u8; 262144];
     let n = io::read_full(0, &mut buffer);
-    cases(&buffer[..n]);
+    let mut dir = [0u8; EIGHT_SIZE];
+    directory::eight::write_eight(&mut dir);
+    cases(&dir, &buffer[..n]);
 }

@@ -1,26 +1,28 @@
 // A record moved on in place by instalments.
-use answers::Checked;
 use records::Record;
 
 // One instalment: its answer and the record that it left.
-fn play(log: &[u8], tail: u32, r: Record, table: &mut [u8], stop: u64) -> Record {
+fn play(dir: &[u8], log: &[u8], tail: u32, r: Record, table: &mut [u8], stop: u64) -> Record {
     io::write_all(1, b"play");
-    let l = inplace::play_on(log, tail as usize, r, table, stop);
+    let l = inplace::play_on(dir, log, tail as usize, r, table, stop);
     let a = l.answer;
     let left = l.record;
-    match a {
-        Checked::Done => {
-            io::write_all(1, b" done");
-        }
-        Checked::Refused(x) => printing::next_refusal(x),
-    }
+    printing::next_checked(a);
     printing::next_record(left);
     printing::line_end();
     left
 }
 
 // The instalments from a place on, one after the other.
-fn plays(input: &[u8], at: usize, n: usize, log: &[u8], table: &mut [u8], r: Record) -> Record {
+fn plays(
+    dir: &[u8],
+    input: &[u8],
+    at: usize,
+    n: usize,
+    log: &[u8],
+    table: &mut [u8],
+    r: Record,
+) -> Record {
     let mut a = at;
     let mut x = r;
     let mut k = 0;
@@ -28,7 +30,7 @@ fn plays(input: &[u8], at: usize, n: usize, log: &[u8], table: &mut [u8], r: Rec
         let second = cases::after(input, a, 4);
         let tail = cases::word(input, a);
         let stop = cases::long(input, second);
-        x = play(log, tail, x, table, stop);
+        x = play(dir, log, tail, x, table, stop);
         a = cases::after(input, second, 8);
         k += 1;
     }
@@ -38,13 +40,7 @@ fn plays(input: &[u8], at: usize, n: usize, log: &[u8], table: &mut [u8], r: Rec
 // The bytes of the table as numbers of 4 bytes.
 fn dump(table: &[u8]) {
     io::write_all(1, b"table");
-    let n = table.len() / 4;
-    let mut k = 0;
-    while k < n {
-        printing::next(printing::wide(codec::bytes::be32(table, 4 * k)));
-        k += 1;
-    }
-    printing::line_end();
+    printing::words(table);
 }
 
 // The record at a place.
@@ -59,12 +55,12 @@ fn record_at(input: &[u8], at: usize) -> Record {
 }
 
 // The record and the instalments at a place, on a log and a table; answers the place after them.
-fn instalments(input: &[u8], at: usize, log: &[u8], table: &mut [u8]) -> usize {
+fn instalments(dir: &[u8], input: &[u8], at: usize, log: &[u8], table: &mut [u8]) -> usize {
     let r = record_at(input, at);
     let second = cases::after(input, at, 20);
     let n = cases::word(input, second) as usize;
     let third = cases::after(input, second, 4);
-    let left = plays(input, third, n, log, table, r);
+    let left = plays(dir, input, third, n, log, table, r);
     io::write_all(1, b"left");
     printing::next_record(left);
     printing::line_end();
@@ -76,7 +72,7 @@ fn instalments(input: &[u8], at: usize, log: &[u8], table: &mut [u8]) -> usize {
 }
 
 // The run at a place, on a table of its own; answers the place after it.
-fn run(input: &[u8], at: usize, log: &[u8]) -> usize {
+fn run(dir: &[u8], input: &[u8], at: usize, log: &[u8]) -> usize {
     let length = cases::word(input, at) as usize;
     let second = cases::after(input, at, 4);
     let bytes = cases::part(input, second, length);
@@ -87,15 +83,15 @@ fn run(input: &[u8], at: usize, log: &[u8]) -> usize {
     }
     codec::bytes::copy_in(&mut table, 0, bytes);
     let e = bytes.len();
-    instalments(input, third, log, &mut table[0..e])
+    instalments(dir, input, third, log, &mut table[0..e])
 }
 
 // So many runs from a place on; answers the place after them.
-pub fn all(input: &[u8], at: usize, n: usize, log: &[u8]) -> usize {
+pub fn all(dir: &[u8], input: &[u8], at: usize, n: usize, log: &[u8]) -> usize {
     let mut a = at;
     let mut k = 0;
     while k < n {
-        a = run(input, a, log);
+        a = run(dir, input, a, log);
         k += 1;
     }
     a

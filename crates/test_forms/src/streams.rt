@@ -21,14 +21,14 @@ fn shown(a: NextEntry) -> bool {
 }
 
 // A reader from an offset to its end or a refusal, at most 64 calls, and its next offset.
-fn stream(log: &[u8], tail: usize, x: u32, from: u64) {
+fn stream(dir: &[u8], log: &[u8], tail: usize, x: u32, from: u64) {
     io::write_all(1, b"stream");
     printing::next(printing::wide(x));
     printing::next(from);
     let mut at = from;
     let mut left = 64u64;
     while 0 < left {
-        let n = reader::next_from(log, tail, ObjectId(x), at);
+        let n = reader::next_from(dir, log, tail, ObjectId(x), at);
         let a = n.found;
         let r = n.reader;
         at = r.0;
@@ -42,18 +42,18 @@ fn stream(log: &[u8], tail: usize, x: u32, from: u64) {
 }
 
 // From 0, the middle, the tail and the offset after it.
-fn streams(log: &[u8], tail: u32, x: u32) {
+fn streams(dir: &[u8], log: &[u8], tail: u32, x: u32) {
     let last = tail as u64;
     let t = tail as usize;
-    stream(log, t, x, 0);
-    stream(log, t, x, last / 2);
-    stream(log, t, x, last);
-    stream(log, t, x, last + 1);
+    stream(dir, log, t, x, 0);
+    stream(dir, log, t, x, last / 2);
+    stream(dir, log, t, x, last);
+    stream(dir, log, t, x, last + 1);
 }
 
 // All objects, and two numbers that are none.
-pub fn all(log: &[u8], tail: u32) {
+pub fn all(dir: &[u8], log: &[u8], tail: u32) {
     for x in 0..10 {
-        streams(log, tail, x);
+        streams(dir, log, tail, x);
     }
 }

@@ -1,27 +1,20 @@
 // Check, owed, entry and item list.
-use answers::Checked;
-use codec::marks::Mark;
 use codec::names::Offset;
 use entries::calls::Found;
 use entries::calls::Info;
 use entries::owing::Owed;
 use slot::fields::Header;
 
-pub fn check(log: &[u8], tail: usize) {
+pub fn check(dir: &[u8], log: &[u8], tail: usize) {
     io::write_all(1, b"check");
-    let c = entries::calls::check(log, tail);
-    match c {
-        Checked::Done => {
-            io::write_all(1, b" done");
-        }
-        Checked::Refused(r) => printing::next_refusal(r),
-    }
+    let c = entries::calls::check(dir, log, tail);
+    printing::next_checked(c);
     printing::line_end();
 }
 
-pub fn owed(log: &[u8], tail: usize) {
+pub fn owed(dir: &[u8], log: &[u8], tail: usize) {
     io::write_all(1, b"owed");
-    let w = entries::owing::lowest_owing(log, tail);
+    let w = entries::owing::lowest_owing(dir, log, tail);
     match w {
         Owed::At(o) => printing::next(o.0),
         Owed::Nothing => {
@@ -30,16 +23,6 @@ pub fn owed(log: &[u8], tail: usize) {
         Owed::Refused(r) => printing::next_refusal(r),
     }
     printing::line_end();
-}
-
-fn kind(m: Mark) -> u64 {
-    match m {
-        Mark::Update => 1,
-        Mark::Commit => 2,
-        Mark::Decision => 3,
-        Mark::Checkpoint => 4,
-        Mark::Bad => 0,
-    }
 }
 
 // The header at a place, where the entry has so many.
@@ -60,7 +43,7 @@ fn info(i: Info) {
     let second = i.second;
     let third = i.third;
     let fourth = i.fourth;
-    printing::next(kind(k));
+    printing::next(printing::kind(k));
     printing::next(n.0 as u64);
     printing::next(i.headers as u64);
     printing::next(i.items as u64);
@@ -70,10 +53,10 @@ fn info(i: Info) {
     header(fourth, 3, i.headers);
 }
 
-fn entry(log: &[u8], tail: usize, o: u64) {
+fn entry(dir: &[u8], log: &[u8], tail: usize, o: u64) {
     io::write_all(1, b"entry");
     printing::next(o);
-    let f = entries::calls::entry(log, tail, Offset(o));
+    let f = entries::calls::entry(dir, log, tail, Offset(o));
     match f {
         Found::Entry(i) => info(i),
         Found::Refused(r) => printing::next_refusal(r),
@@ -81,39 +64,28 @@ fn entry(log: &[u8], tail: usize, o: u64) {
     printing::line_end();
 }
 
-// The bytes as numbers of 4 bytes.
-fn words(s: &[u8]) {
-    let n = s.len() / 4;
-    let mut k = 0;
-    while k < n {
-        printing::next(codec::bytes::be32(s, 4 * k) as u64);
-        k += 1;
-    }
-}
-
-fn items(log: &[u8], tail: usize, o: u64) {
+fn items(dir: &[u8], log: &[u8], tail: usize, o: u64) {
     io::write_all(1, b"items");
     printing::next(o);
-    words(entries::calls::items(log, tail, Offset(o)));
-    printing::line_end();
+    printing::words(entries::calls::items(dir, log, tail, Offset(o)));
 }
 
-fn both(log: &[u8], tail: usize, o: u64) {
-    entry(log, tail, o);
-    items(log, tail, o);
+fn both(dir: &[u8], log: &[u8], tail: usize, o: u64) {
+    entry(dir, log, tail, o);
+    items(dir, log, tail, o);
 }
 
 // The first eight offsets, the tail and the offset after it.
-pub fn entries(log: &[u8], tail: usize) {
+pub fn entries(dir: &[u8], log: &[u8], tail: usize) {
     for o in 0..8 {
         if o <= tail {
-            both(log, tail, o as u64);
+            both(dir, log, tail, o as u64);
         }
     }
     if 7 < tail {
-        both(log, tail, tail as u64);
+        both(dir, log, tail, tail as u64);
     }
     if tail < 4294967296 {
-        both(log, tail, tail as u64 + 1);
+        both(dir, log, tail, tail as u64 + 1);
     }
 }

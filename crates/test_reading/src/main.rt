@@ -3,20 +3,23 @@
 mod calls;
 mod streams;
 
+// The directory of the eight objects has so many bytes.
+const EIGHT_SIZE: usize = 128;
+
 // All calls on one log.
-fn case(log: &[u8], tail: usize) {
-    calls::check(log, tail);
-    calls::owed(log, tail);
-    calls::entries(log, tail);
+fn case(dir: &[u8], log: &[u8], tail: usize) {
+    calls::check(dir, log, tail);
+    calls::owed(dir, log, tail);
+    calls::entries(dir, log, tail);
     for x in 0..10 {
-        streams::nexts(log, tail, x);
+        streams::nexts(dir, log, tail, x);
     }
     for x in 0..10 {
-        streams::lists(log, tail, x);
+        streams::lists(dir, log, tail, x);
     }
 }
 
-fn cases(input: &[u8]) {
+fn cases(dir: &[u8], input: &[u8]) {
     let mut at = 0;
     while 8 <= input.len() - at {
         let tail = codec::bytes::be32(input, at) as usize;
@@ -26,7 +29,7 @@ fn cases(input: &[u8]) {
             return;
         }
         let e = a + size;
-        case(&input[a..e], tail);
+        case(dir, &input[a..e], tail);
         at = e;
     }
 }
@@ -34,5 +37,7 @@ fn cases(input: &[u8]) {
 fn main() {
     let mut buffer = [0u8; 262144];
     let n = io::read_full(0, &mut buffer);
-    cases(&buffer[..n]);
+    let mut dir = [0u8; EIGHT_SIZE];
+    directory::eight::write_eight(&mut dir);
+    cases(&dir, &buffer[..n]);
 }

@@ -4,11 +4,11 @@ use codec::names::Offset;
 use entries::listing::Listed;
 use entries::reader::NextEntry;
 
-fn next(log: &[u8], tail: usize, x: u32, from: u64) {
+fn next(dir: &[u8], log: &[u8], tail: usize, x: u32, from: u64) {
     io::write_all(1, b"next");
     printing::next(x as u64);
     printing::next(from);
-    let n = entries::reader::stream_next(log, tail, ObjectId(x), Offset(from));
+    let n = entries::reader::stream_next(dir, log, tail, ObjectId(x), Offset(from));
     let f = n.found;
     let r = n.reader;
     match f {
@@ -23,16 +23,16 @@ fn next(log: &[u8], tail: usize, x: u32, from: u64) {
 }
 
 // From 0, the middle, the tail and the offset after it.
-pub fn nexts(log: &[u8], tail: usize, x: u32) {
-    next(log, tail, x, 0);
+pub fn nexts(dir: &[u8], log: &[u8], tail: usize, x: u32) {
+    next(dir, log, tail, x, 0);
     if 2 <= tail {
-        next(log, tail, x, tail as u64 / 2);
+        next(dir, log, tail, x, tail as u64 / 2);
     }
     if 1 <= tail {
-        next(log, tail, x, tail as u64);
+        next(dir, log, tail, x, tail as u64);
     }
     if tail < 4294967296 {
-        next(log, tail, x, tail as u64 + 1);
+        next(dir, log, tail, x, tail as u64 + 1);
     }
 }
 
@@ -45,11 +45,11 @@ fn numbers(list: &[u32]) {
     printing::line_end();
 }
 
-fn list(log: &[u8], tail: usize, x: u32, lent: &mut [u32]) {
+fn list(dir: &[u8], log: &[u8], tail: usize, x: u32, lent: &mut [u32]) {
     io::write_all(1, b"list");
     printing::next(x as u64);
     printing::next(lent.len() as u64);
-    let l = entries::listing::stream_list(log, tail, ObjectId(x), lent);
+    let l = entries::listing::stream_list(dir, log, tail, ObjectId(x), lent);
     match l {
         Listed::Count(n) => printing::next(n as u64),
         Listed::Refused(r) => printing::next_refusal(r),
@@ -58,9 +58,9 @@ fn list(log: &[u8], tail: usize, x: u32, lent: &mut [u32]) {
 }
 
 // With too little room, perhaps, and with enough.
-pub fn lists(log: &[u8], tail: usize, x: u32) {
+pub fn lists(dir: &[u8], log: &[u8], tail: usize, x: u32) {
     let mut few = [77777u32; 5];
-    list(log, tail, x, &mut few);
+    list(dir, log, tail, x, &mut few);
     let mut many = [77777u32; 40];
-    list(log, tail, x, &mut many);
+    list(dir, log, tail, x, &mut many);
 }

@@ -5,8 +5,12 @@ mod requests;
 
 use records::Record;
 
+// The directory of the eight objects has so many bytes.
+const EIGHT_SIZE: usize = 128;
+
 // The requests from a place on, one after the other; answers the place after them.
 fn all_requests(
+    dir: &[u8],
     input: &[u8],
     at: usize,
     n: usize,
@@ -18,7 +22,7 @@ fn all_requests(
     let mut x = r;
     let mut k = 0;
     while k < n {
-        let s = requests::request(input, a, log, table, x);
+        let s = requests::request(dir, input, a, log, table, x);
         a = s.at;
         x = s.record;
         k += 1;
@@ -29,13 +33,7 @@ fn all_requests(
 // The bytes of the table as numbers of 4 bytes.
 fn dump(table: &[u8]) {
     io::write_all(1, b"table");
-    let n = table.len() / 4;
-    let mut k = 0;
-    while k < n {
-        printing::next(printing::wide(codec::bytes::be32(table, 4 * k)));
-        k += 1;
-    }
-    printing::line_end();
+    printing::words(table);
 }
 
 // The record at a place.
@@ -50,17 +48,17 @@ fn record_at(input: &[u8], at: usize) -> Record {
 }
 
 // The record and the requests at a place, on a log and a table.
-fn run(input: &[u8], at: usize, log: &[u8], table: &mut [u8]) -> usize {
+fn run(dir: &[u8], input: &[u8], at: usize, log: &[u8], table: &mut [u8]) -> usize {
     let r = record_at(input, at);
     let second = cases::after(input, at, 20);
     let n = cases::word(input, second) as usize;
-    let next = all_requests(input, cases::after(input, second, 4), n, log, table, r);
+    let next = all_requests(dir, input, cases::after(input, second, 4), n, log, table, r);
     dump(table);
     next
 }
 
 // The case at a place, on a table of its own; answers the place after it.
-fn case(input: &[u8], at: usize) -> usize {
+fn case(dir: &[u8], input: &[u8], at: usize) -> usize {
     let size = cases::word(input, at) as usize;
     let second = cases::after(input, at, 4);
     let log = cases::part(input, second, size);
@@ -75,13 +73,13 @@ fn case(input: &[u8], at: usize) -> usize {
     }
     codec::bytes::copy_in(&mut table, 0, bytes);
     let e = bytes.len();
-    run(input, fifth, log, &mut table[0..e])
+    run(dir, input, fifth, log, &mut table[0..e])
 }
 
-fn cases(input: &[u8]) {
+fn cases(dir: &[u8], input: &[u8]) {
     let mut at = 0;
     while at < input.len() {
-        let next = case(input, at);
+        let next = case(dir, input, at);
         if next <= at {
             return;
         }
@@ -92,5 +90,7 @@ fn cases(input: &[u8]) {
 fn main() {
     let mut buffer = [0u8; 524288];
     let n = io::read_full(0, &mut buffer);
-    cases(&buffer[..n]);
+    let mut dir = [0u8; EIGHT_SIZE];
+    directory::eight::write_eight(&mut dir);
+    cases(&dir, &buffer[..n]);
 }

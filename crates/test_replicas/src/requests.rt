@@ -1,13 +1,10 @@
 // One call on a replica or an audit, and its answer printed.
 use answers::Checked;
-use codec::cells::Content;
-use codec::cells::Written;
 use codec::names::ObjectId;
 use records::Record;
 use replica::cells::Reading;
 use replica::opening::Opened;
 use replica::playing::Left;
-use table::rows::Held;
 
 // The place after a request, and the record that it left.
 pub struct Stand {
@@ -15,9 +12,9 @@ pub struct Stand {
     pub record: Record,
 }
 
-fn open(r: Record, hosted: u8) -> Record {
+fn open(dir: &[u8], r: Record, hosted: u64) -> Record {
     io::write_all(1, b"open ");
-    let o = replica::opening::open_fresh(hosted);
+    let o = replica::opening::open_fresh(dir, hosted);
     match o {
         Opened::Replica(x) => {
             io::write_all(1, b"done");
@@ -37,31 +34,26 @@ fn open(r: Record, hosted: u8) -> Record {
 fn left(l: Left) -> Record {
     let a = l.answer;
     let r = l.record;
-    match a {
-        Checked::Done => {
-            io::write_all(1, b"done");
-        }
-        Checked::Refused(x) => printing::refusal(x),
-    }
+    printing::next_checked(a);
     printing::next_record(r);
     printing::line_end();
     r
 }
 
-fn play(log: &[u8], tail: usize, r: Record, table: &mut [u8], stop: u64) -> Record {
-    io::write_all(1, b"play ");
-    left(replica::playing::play(log, tail, r, table, stop))
+fn play(dir: &[u8], log: &[u8], tail: usize, r: Record, table: &mut [u8], stop: u64) -> Record {
+    io::write_all(1, b"play");
+    left(replica::playing::play(dir, log, tail, r, table, stop))
 }
 
-fn audit(log: &[u8], tail: usize, table: &mut [u8]) -> Record {
-    io::write_all(1, b"audit ");
-    left(audit::audit(log, tail, table))
+fn audit(dir: &[u8], log: &[u8], tail: usize, table: &mut [u8]) -> Record {
+    io::write_all(1, b"audit");
+    left(audit::audit(dir, log, tail, table))
 }
 
 // An opening at a checkpoint; refused, the record stays.
-fn restore(log: &[u8], tail: usize, o: u64, r: Record, table: &mut [u8]) -> Record {
+fn restore(dir: &[u8], log: &[u8], tail: usize, o: u64, r: Record, table: &mut [u8]) -> Record {
     io::write_all(1, b"restore ");
-    let l = replica::restoring::open_at(log, tail, o, table);
+    let l = replica::restoring::open_at(dir, log, tail, o, table);
     let a = l.answer;
     let opened = l.record;
     match a {
@@ -79,47 +71,21 @@ fn restore(log: &[u8], tail: usize, o: u64, r: Record, table: &mut [u8]) -> Reco
     }
 }
 
-fn written(w: Written) {
-    let v = w.version;
-    let c = w.content;
-    match c {
-        Content::Removed => {
-            io::write_all(1, b" removed");
-        }
-        Content::Value(x) => {
-            io::write_all(1, b" value");
-            printing::next(printing::wide(x));
-        }
-    }
-    printing::next(v.0);
-}
-
-fn held(h: Held) {
-    match h {
-        Held::Never => {
-            io::write_all(1, b" never");
-        }
-        Held::Written(w) => written(w),
-    }
-}
-
-fn cell(r: Record, table: &[u8], id: u32, key: u32) {
+fn cell(dir: &[u8], r: Record, table: &[u8], id: u32, key: u32) {
     io::write_all(1, b"cell");
     printing::next(printing::wide(id));
     printing::next(printing::wide(key));
-    let c = replica::cells::read_cell(r, table, ObjectId(id), key);
+    let c = replica::cells::read_cell(dir, r, table, ObjectId(id), key);
     match c {
-        Reading::Cell(h) => held(h),
-        Reading::Refused(x) => {
-            io::write_all(1, b" ");
-            printing::refusal(x);
-        }
+        Reading::Cell(h) => printing::next_held(h),
+        Reading::Refused(x) => printing::next_refusal(x),
     }
     printing::line_end();
 }
 
 // A request with a tail and a number of 8 bytes at a place: a play, or an opening at a checkpoint.
 fn long_request(
+    dir: &[u8],
     input: &[u8],
     at: usize,
     kind: u32,
@@ -133,17 +99,24 @@ fn long_request(
     if kind == 2 {
         return Stand {
             at: next,
-            record: play(log, tail, r, table, n),
+            record: play(dir, log, tail, r, table, n),
         };
     }
     Stand {
         at: next,
-        record: restore(log, tail, n, r, table),
+        record: restore(dir, log, tail, n, r, table),
     }
 }
 
 // The request at a place of the input.
-pub fn request(input: &[u8], at: usize, log: &[u8], table: &mut [u8], r: Record) -> Stand {
+pub fn request(
+    dir: &[u8],
+    input: &[u8],
+    at: usize,
+    log: &[u8],
+    table: &mut [u8],
+    r: Record,
+) -> Stand {
     let kind = cases::word(input, at);
     let first = cases::after(input, at, 4);
     let a = cases::word(input, first);
@@ -151,21 +124,21 @@ pub fn request(input: &[u8], at: usize, log: &[u8], table: &mut [u8], r: Record)
     if kind == 1 {
         return Stand {
             at: second,
-            record: open(r, cases::low(a)),
+            record: open(dir, r, cases::low(a)),
         };
     }
     if kind == 5 {
         return Stand {
             at: second,
-            record: audit(log, a as usize, table),
+            record: audit(dir, log, a as usize, table),
         };
     }
     if kind == 3 {
-        cell(r, table, a, cases::word(input, second));
+        cell(dir, r, table, a, cases::word(input, second));
         return Stand {
             at: cases::after(input, second, 4),
             record: r,
         };
     }
-    long_request(input, second, kind, a as usize, log, table, r)
+    long_request(dir, input, second, kind, a as usize, log, table, r)
 }

@@ -17,10 +17,14 @@ returns-14 c = sym (ap (λ x. refusalIn x .told) (c .before .r3 .given .1))
 returns-16 : tie.Need-returns-16
 returns-16 c = sym (ap (λ x. refusalIn x .told) (c .before .r4 .given .1))
 
+returns-17 : tie.Need-returns-17
+returns-17 c = sym (ap (λ x. refusalIn x .told) (c .before .r5 .given .1))
+
 pub told-of-spec : {M : Type 1} → statement M
 told-of-spec =
     tie.close
     (tie.spec
+    (λ c. search needs)
     (λ c. search needs)
     (λ c. search needs)
     (λ c. search needs)
@@ -52,4 +56,5 @@ told-of-spec =
     (λ c. search needs)
     returns-14
     (λ c. search needs)
-    returns-16)
+    returns-16
+    returns-17)

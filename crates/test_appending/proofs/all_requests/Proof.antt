@@ -8,10 +8,10 @@ use Rattle.test_appending.proofs.all_requests.Statement.{statement}
 use Rattle.test_appending.proofs.all_requests.Tie as tie
 
 abbrev Inv-loop : tie.InvT-loop
-Inv-loop input at n log₀ tail a₀ t₀ k₀ log a t k = (k ≤ n) × (length log ≡ length log₀)
+Inv-loop dir input at n log₀ tail a₀ t₀ k₀ log a t k = (k ≤ n) × (length log ≡ length log₀)
 
 abbrev μ-loop : tie.MeasureT-loop
-μ-loop input at n log₀ tail a₀ t₀ k₀ log a t k = n - k
+μ-loop dir input at n log₀ tail a₀ t₀ k₀ log a t k = n - k
 
 pub all-requests-spec : {M : Type 1} → statement M
 all-requests-spec =

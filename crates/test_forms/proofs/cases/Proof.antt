@@ -7,10 +7,10 @@ use Rattle.test_forms.proofs.cases.Statement.{statement}
 use Rattle.test_forms.proofs.cases.Tie as tie
 
 abbrev Inv-loop : tie.InvT-loop
-Inv-loop input at₀ at = 0 ≤ at
+Inv-loop dir input at₀ at = 0 ≤ at
 
 abbrev μ-loop : tie.MeasureT-loop
-μ-loop input at₀ at = length input - at
+μ-loop dir input at₀ at = length input - at
 
 pub cases-spec : {M : Type 1} → statement M
 cases-spec =

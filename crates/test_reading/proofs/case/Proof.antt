@@ -6,16 +6,16 @@ use Rattle.test_reading.proofs.case.Statement.{statement}
 use Rattle.test_reading.proofs.case.Tie as tie
 
 abbrev Inv-loop : tie.InvT-loop
-Inv-loop log tail x₀ x = x ≤ 10
+Inv-loop dir log tail x₀ x = x ≤ 10
 
 abbrev μ-loop : tie.MeasureT-loop
-μ-loop log tail x₀ x = 10 - x
+μ-loop dir log tail x₀ x = 10 - x
 
 abbrev Inv-loop2 : tie.InvT-loop2
-Inv-loop2 log tail x₀ x = x ≤ 10
+Inv-loop2 dir log tail x₀ x = x ≤ 10
 
 abbrev μ-loop2 : tie.MeasureT-loop2
-μ-loop2 log tail x₀ x = 10 - x
+μ-loop2 dir log tail x₀ x = 10 - x
 
 pub case-spec : {M : Type 1} → statement M
 case-spec =

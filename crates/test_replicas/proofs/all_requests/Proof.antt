@@ -8,10 +8,10 @@ use Rattle.test_replicas.proofs.all_requests.Statement.{statement}
 use Rattle.test_replicas.proofs.all_requests.Tie as tie
 
 abbrev Inv-loop : tie.InvT-loop
-Inv-loop input at n log table₀ a₀ x₀ k₀ table a x k = (k ≤ n) × (length table ≡ length table₀)
+Inv-loop dir input at n log table₀ a₀ x₀ k₀ table a x k = (k ≤ n) × (length table ≡ length table₀)
 
 abbrev μ-loop : tie.MeasureT-loop
-μ-loop input at n log table₀ a₀ x₀ k₀ table a x k = n - k
+μ-loop dir input at n log table₀ a₀ x₀ k₀ table a x k = n - k
 
 pub all-requests-spec : {M : Type 1} → statement M
 all-requests-spec =

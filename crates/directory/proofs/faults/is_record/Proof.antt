@@ -1,12 +1,12 @@
 -- Four tests in turn; the model's seven are the same ones, joined otherwise (`record-judged`).
 use mathlib.Core.Path.{_≡_, refl, ap, ap₂, sym, _∙_}
-use mathlib.Core.Bool.{true, false, _&&_}
-use Prim.Native.Nat.{ℕ, _+_, _^_}
-use lib.Dec.{leb, ltb}
+use mathlib.Core.Bool.{true, false}
+use Prim.Native.Nat.{ℕ, _+_}
+use lib.Dec.{leb}
 use borrow.Author.Tests.{not-true, not-false}
 use Rattle.lists.specs.Bytes.{beAt}
 use Rattle.model.specs.Directory.{idAt, okKindAndKey}
-use Rattle.directory.specs.Faults.{record-judged}
+use Rattle.directory.specs.Faults.{okId, record-judged}
 use borrow.Author.Needs.{needs}
 use Rattle.directory.proofs.faults.is_record.Statement.{statement}
 use Rattle.directory.proofs.faults.is_record.Tie as tie
@@ -18,8 +18,8 @@ returns c =
 
 -- the id that was read, tested
 id-tested : (c : tie.After-is-id) → let a = c .before .before .before .before .before .args in
-    (leb 1 (idAt (a .dir .now) (a .i)) && ltb (idAt (a .dir .now) (a .i)) (2 ^ 31)) ≡ c .is-id .result
-id-tested c = ap (λ (v : ℕ). leb 1 v && ltb v (2 ^ 31)) (sym (c .before .be32 .ensures)) ∙ sym (c .is-id .ensures)
+    okId (idAt (a .dir .now) (a .i)) ≡ c .is-id .result
+id-tested c = ap okId (sym (c .before .be32 .ensures)) ∙ sym (c .is-id .ensures)
 
 returns-2 : tie.Need-returns-2
 returns-2 c =

@@ -2,6 +2,7 @@
 use Prim.Native.Nat.{_-_, _*_, _≤_}
 use native.Mathlib.Omega.{arith}
 use lib.ListN.{length}
+use Rattle.model.specs.Directory.{shapeOf}
 use Rattle.model.specs.Table.{cellSize}
 use Rattle.records.specs.Record.{count-fits, good-told}
 use borrow.Author.Needs.{needs}
@@ -9,16 +10,16 @@ use Rattle.playlog.proofs.cells.print.Statement.{statement}
 use Rattle.playlog.proofs.cells.print.Tie as tie
 
 abbrev Inv-loop : tie.InvT-loop
-Inv-loop table n i₀ i = (i ≤ n) × (cellSize * n ≤ length table)
+Inv-loop dir table n i₀ i = (i ≤ n) × (cellSize * n ≤ length table)
 
 abbrev μ-loop : tie.MeasureT-loop
-μ-loop table n i₀ i = n - i
+μ-loop dir table n i₀ i = n - i
 
 loop-holds : tie.Need-loop-holds Inv-loop μ-loop
 loop-holds c =
     let f = c .before in
-    let a = f .before .before .before .before .args in
-    (omega arith, count-fits (a .r) (a .table .now) (good-told _ (f .fits2 .ensures) (c .if1 .left)))
+    let a = f .before .before .before .before .before .args in
+    (omega arith, count-fits (shapeOf (a .dir .now)) (a .r) (a .table .now) (good-told _ (f .fits2 .ensures) (c .if1 .left)))
 
 pub print-spec : {M : Type 1} → statement M
 print-spec =

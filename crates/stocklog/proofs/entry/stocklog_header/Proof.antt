@@ -10,7 +10,7 @@ use Rattle.stocklog.proofs.entry.stocklog_header.Tie as tie
 returns : tie.Need-returns
 unfolding headerCall
 returns c =
-    let place = c .before .before .before .before .before .args .place in
+    let place = c .before .before .before .before .before .before .args .place in
     c .put .ensures ∙ c .before .of-found .ensures ∙ ap (λ (x : Answer Info). headerReply (headerIn x place)) (c .before .before .before .entry .ensures .0)
 
 pub stocklog-header-spec : {M : Type 1} → statement M

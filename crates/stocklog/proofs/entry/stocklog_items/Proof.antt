@@ -14,15 +14,15 @@ use Rattle.stocklog.proofs.entry.stocklog_items.Tie as tie
 returns : tie.Need-returns
 returns c =
     let k = c .before .before .before .before in
-    let a = k .before .before .before .before .args in
-    items-said (a .log .now) (a .tail) (a .offset)
+    let a = k .before .before .before .before .before .args in
+    items-said (a .dir .now) (a .log .now) (a .tail) (a .offset)
     (c .put .ensures ∙ c .before .refusal .ensures ∙ sym (ap (λ x. itemsReply (a .offset) (foundIn x)) (k .f .given .1)) ∙ ap (itemsReply (a .offset)) (k .before .before .entry .ensures .0))
 
-placed : (c : tie.After-known-told2) → c .before .before .before .before .before .args .offset < mostSlots
+placed : (c : tie.After-known-told2) → c .before .before .before .before .before .before .args .offset < mostSlots
 placed c =
     let k = c .before in
-    let a = k .before .before .before .before .args in
-    entry-placed (a .log .now) (a .tail) (a .offset) (infoOf (k .f2 .given .0 .0)) (sym (k .before .before .entry .ensures .0) ∙ ap foundIn (k .f2 .given .1))
+    let a = k .before .before .before .before .before .args in
+    entry-placed (a .dir .now) (a .log .now) (a .tail) (a .offset) (infoOf (k .f2 .given .0 .0)) (sym (k .before .before .entry .ensures .0) ∙ ap foundIn (k .f2 .given .1))
 
 mul-at : tie.Need-mul-at
 mul-at c = omega (arith, placed c)
@@ -33,8 +33,8 @@ add-at c = omega (arith, placed c)
 returns-2 : tie.Need-returns-2
 returns-2 c =
     let k = c .before .before .before .before .before in
-    let a = k .before .before .before .before .args in
-    items-said (a .log .now) (a .tail) (a .offset)
+    let a = k .before .before .before .before .before .args in
+    items-said (a .dir .now) (a .log .now) (a .tail) (a .offset)
     (c .put2 .ensures ∙ c .before .done .ensures ∙ sym (ap (λ x. itemsReply (a .offset) (foundIn x)) (k .f2 .given .1)) ∙ ap (itemsReply (a .offset)) (k .before .before .entry .ensures .0))
 
 pub stocklog-items-spec : {M : Type 1} → statement M

@@ -12,13 +12,13 @@ enum-told c = search needs
 
 returns : tie.Need-returns
 returns c =
-    let k = c .before .before in
+    let k = c .before in
     let r = replicaIn (k .before .before .before .args .l .record) in
     c .done .ensures ∙ sym (ap (λ x. standReply r (checkedIn x)) (k .enum-told .given .1))
 
 returns-2 : tie.Need-returns-2
 returns-2 c =
-    let k = c .before .before .before in
+    let k = c .before .before in
     let r = replicaIn (k .before .before .before .args .l .record) in
     c .refusal .ensures ∙ sym (ap (λ x. standReply r (checkedIn x)) (k .a .given .1))
 
@@ -27,9 +27,7 @@ of-left-spec =
     tie.close
     (tie.spec
     enum-told
-    (λ c. search needs)
     (λ c κs. search needs)
-    (λ c. search needs)
     (λ c. search needs)
     (λ c κs. search needs)
     returns

@@ -6,10 +6,10 @@ use Rattle.test_forms.proofs.runs.all.Statement.{statement}
 use Rattle.test_forms.proofs.runs.all.Tie as tie
 
 abbrev Inv-loop : tie.InvT-loop
-Inv-loop input at n log a₀ k₀ a k = k ≤ n
+Inv-loop dir input at n log a₀ k₀ a k = k ≤ n
 
 abbrev μ-loop : tie.MeasureT-loop
-μ-loop input at n log a₀ k₀ a k = n - k
+μ-loop dir input at n log a₀ k₀ a k = n - k
 
 pub all-spec : {M : Type 1} → statement M
 all-spec =

@@ -8,10 +8,10 @@ use Rattle.test_forms.proofs.runs.plays.Statement.{statement}
 use Rattle.test_forms.proofs.runs.plays.Tie as tie
 
 abbrev Inv-loop : tie.InvT-loop
-Inv-loop input at n log table₀ a₀ x₀ k₀ table a x k = (k ≤ n) × (length table ≡ length table₀)
+Inv-loop dir input at n log table₀ a₀ x₀ k₀ table a x k = (k ≤ n) × (length table ≡ length table₀)
 
 abbrev μ-loop : tie.MeasureT-loop
-μ-loop input at n log table₀ a₀ x₀ k₀ table a x k = n - k
+μ-loop dir input at n log table₀ a₀ x₀ k₀ table a x k = n - k
 
 pub plays-spec : {M : Type 1} → statement M
 plays-spec =

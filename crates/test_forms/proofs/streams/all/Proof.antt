@@ -6,10 +6,10 @@ use Rattle.test_forms.proofs.streams.all.Statement.{statement}
 use Rattle.test_forms.proofs.streams.all.Tie as tie
 
 abbrev Inv-loop : tie.InvT-loop
-Inv-loop log tail x₀ x = x ≤ 10
+Inv-loop dir log tail x₀ x = x ≤ 10
 
 abbrev μ-loop : tie.MeasureT-loop
-μ-loop log tail x₀ x = 10 - x
+μ-loop dir log tail x₀ x = 10 - x
 
 pub all-spec : {M : Type 1} → statement M
 all-spec =

@@ -6,10 +6,10 @@ use Rattle.test_forms.proofs.streams.stream.Statement.{statement}
 use Rattle.test_forms.proofs.streams.stream.Tie as tie
 
 abbrev Inv-loop : tie.InvT-loop
-Inv-loop log tail x from at₀ left₀ at left = 0 ≤ left
+Inv-loop dir log tail x from at₀ left₀ at left = 0 ≤ left
 
 abbrev μ-loop : tie.MeasureT-loop
-μ-loop log tail x from at₀ left₀ at left = left
+μ-loop dir log tail x from at₀ left₀ at left = left
 
 pub stream-spec : {M : Type 1} → statement M
 stream-spec =

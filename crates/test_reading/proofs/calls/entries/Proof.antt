@@ -6,10 +6,10 @@ use Rattle.test_reading.proofs.calls.entries.Statement.{statement}
 use Rattle.test_reading.proofs.calls.entries.Tie as tie
 
 abbrev Inv-loop : tie.InvT-loop
-Inv-loop log tail o₀ o = o ≤ 8
+Inv-loop dir log tail o₀ o = o ≤ 8
 
 abbrev μ-loop : tie.MeasureT-loop
-μ-loop log tail o₀ o = 8 - o
+μ-loop dir log tail o₀ o = 8 - o
 
 pub entries-spec : {M : Type 1} → statement M
 entries-spec =

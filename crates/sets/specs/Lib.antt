@@ -1,2 +1,0 @@
-pub mod Hosted
-pub mod Lowest
