@@ -13,6 +13,7 @@ use std::fmt::Write;
 
 use crate::answer::Answer;
 use crate::append::{self, Request};
+use crate::directory::eight;
 use crate::sample::log_of;
 use crate::slot::SLOT;
 
@@ -38,7 +39,7 @@ impl Case {
         let mut tail = self.tail as usize;
         let mut answers = Vec::new();
         for request in &self.requests {
-            let answer = append::request(&mut log, tail, request);
+            let answer = append::request(eight(), &mut log, tail, request);
             tail = answer.done().unwrap_or(tail);
             answers.push(answer);
         }
@@ -185,7 +186,7 @@ pub fn request_bytes(request: &Request) -> Vec<u8> {
             object,
         } => {
             bytes.extend(4_u32.to_be_bytes());
-            bytes.extend(u32::from(record.hosted).to_be_bytes());
+            bytes.extend((record.hosted as u32).to_be_bytes());
             bytes.extend(record.position.to_be_bytes());
             bytes.extend(record.count.to_be_bytes());
             bytes.extend(object.to_be_bytes());

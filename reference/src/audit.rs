@@ -8,19 +8,19 @@ use crate::slot::{slot_at, Kind, Slot, COMMIT};
 /// What an audit found and left.
 pub struct Audited {
     pub answer: Answer<()>,
-    /// As played; 0, 0, 0 where the log is refused.
+    /// As played; 0, 0, 0 where directory or log is refused.
     pub record: Record,
     /// By offset: a commit record there committed.
     pub committed: Vec<bool>,
 }
 
-pub fn audit(log: &[u8], tail: usize, scratch: &mut [u8]) -> (Answer<()>, Record) {
-    let audited = audit_whole(log, tail, scratch);
+pub fn audit(dir: &[u8], log: &[u8], tail: usize, scratch: &mut [u8]) -> (Answer<()>, Record) {
+    let audited = audit_whole(dir, log, tail, scratch);
     (audited.answer, audited.record)
 }
 
-/// Order: 1, 2, 13, 11 (13.5).
-pub fn audit_whole(log: &[u8], tail: usize, scratch: &mut [u8]) -> Audited {
+/// Order: 15, 1, 2, 13, 11 (13.5).
+pub fn audit_whole(dir: &[u8], log: &[u8], tail: usize, scratch: &mut [u8]) -> Audited {
     let mut audited = Audited {
         answer: Answer::Done(()),
         record: Record {
@@ -30,20 +30,21 @@ pub fn audit_whole(log: &[u8], tail: usize, scratch: &mut [u8]) -> Audited {
         },
         committed: Vec::new(),
     };
-    audited.answer = play_all(log, tail, scratch, &mut audited).into();
+    audited.answer = play_all(dir, log, tail, scratch, &mut audited).into();
     audited
 }
 
 fn play_all(
+    dir: &[u8],
     log: &[u8],
     tail: usize,
     scratch: &mut [u8],
     audited: &mut Audited,
 ) -> Result<(), Refusal> {
-    let earlier = pass(log, tail)?;
-    audited.record.hosted = 0xFF;
+    let (directory, earlier) = pass(dir, log, tail)?;
+    audited.record.hosted = directory.everything();
     audited.committed = vec![false; tail];
-    let mut player = Player::new(log, &earlier, &audited.record, scratch, tail);
+    let mut player = Player::new(&directory, log, &earlier, &audited.record, scratch, tail);
     let answer = play_entries(log, tail, &mut player, audited);
     audited.record.count = player.count as u64;
     player.settle();

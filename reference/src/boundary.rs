@@ -48,23 +48,23 @@ fn first(values: [u64; 3], told: u64) -> [u64; 8] {
 }
 
 fn numbers(record: Record) -> [u64; 3] {
-    [u64::from(record.hosted), record.position, record.count]
+    [record.hosted, record.position, record.count]
 }
 
-pub fn check(log: &[u8], tail: usize) -> Said {
-    said(log::check(log, tail), |()| [0; 3])
+pub fn check(dir: &[u8], log: &[u8], tail: usize) -> Said {
+    said(log::check(dir, log, tail), |()| [0; 3])
 }
 
-pub fn owed(log: &[u8], tail: usize) -> Said {
-    said(log::owed(log, tail), |owed| match owed {
+pub fn owed(dir: &[u8], log: &[u8], tail: usize) -> Said {
+    said(log::owed(dir, log, tail), |owed| match owed {
         Some(offset) => [1, offset, 0],
         None => [0; 3],
     })
 }
 
 /// Kind, number, headers, what is told, items.
-pub fn entry(log: &[u8], tail: usize, offset: u64) -> Said {
-    let answer = log::entry(log, tail, offset);
+pub fn entry(dir: &[u8], log: &[u8], tail: usize, offset: u64) -> Said {
+    let answer = log::entry(dir, log, tail, offset);
     let mut said = said(answer, |entry| {
         [
             entry.kind as u64,
@@ -76,8 +76,8 @@ pub fn entry(log: &[u8], tail: usize, offset: u64) -> Said {
     said
 }
 
-pub fn header(log: &[u8], tail: usize, offset: u64, place: u32) -> Said {
-    said(log::header(log, tail, offset, place), |header| {
+pub fn header(dir: &[u8], log: &[u8], tail: usize, offset: u64, place: u32) -> Said {
+    said(log::header(dir, log, tail, offset, place), |header| {
         [
             u64::from(header.object),
             u64::from(header.format),
@@ -86,15 +86,15 @@ pub fn header(log: &[u8], tail: usize, offset: u64, place: u32) -> Said {
     })
 }
 
-pub fn items(log: &[u8], tail: usize, offset: u64) -> Said {
-    said(log::stretch(log, tail, offset), |stretch| {
+pub fn items(dir: &[u8], log: &[u8], tail: usize, offset: u64) -> Said {
+    said(log::stretch(dir, log, tail, offset), |stretch| {
         [stretch.from, stretch.length, 0]
     })
 }
 
 /// `out` of the stream reader's next (14.4).
-pub fn stream_next(log: &[u8], tail: usize, object: u32, from: u64) -> Said {
-    let (answer, next) = log::next(log, tail, object, from);
+pub fn stream_next(dir: &[u8], log: &[u8], tail: usize, object: u32, from: u64) -> Said {
+    let (answer, next) = log::next(dir, log, tail, object, from);
     let values = match answer {
         Answer::Done(Some(offset)) => [1, offset, next],
         _ => [0, 0, next],
@@ -102,37 +102,44 @@ pub fn stream_next(log: &[u8], tail: usize, object: u32, from: u64) -> Said {
     said_with(answer, values)
 }
 
-pub fn stream_list(log: &[u8], tail: usize, object: u32, list: &mut [u32]) -> Said {
-    said(log::list(log, tail, object, list), |count| {
+pub fn stream_list(dir: &[u8], log: &[u8], tail: usize, object: u32, list: &mut [u32]) -> Said {
+    said(log::list(dir, log, tail, object, list), |count| {
         [count as u64, 0, 0]
     })
 }
 
 /// Any of the four appends: the new tail.
-pub fn append(log: &mut [u8], tail: usize, request: &Request) -> Said {
-    said(append::request(log, tail, request), |tail| {
+pub fn append(dir: &[u8], log: &mut [u8], tail: usize, request: &Request) -> Said {
+    said(append::request(dir, log, tail, request), |tail| {
         [tail as u64, 0, 0]
     })
 }
 
-pub fn open_fresh(hosted: u8) -> Said {
-    said(replica::open_fresh(hosted), numbers)
+pub fn open_fresh(dir: &[u8], hosted: u64) -> Said {
+    said(replica::open_fresh(dir, hosted), numbers)
 }
 
-pub fn open_checkpoint(log: &[u8], tail: usize, offset: u64, table: &mut [u8]) -> Said {
-    said(replica::open_at(log, tail, offset, table), numbers)
+pub fn open_checkpoint(dir: &[u8], log: &[u8], tail: usize, offset: u64, table: &mut [u8]) -> Said {
+    said(replica::open_at(dir, log, tail, offset, table), numbers)
 }
 
 /// The record as it is left, whatever the answer is.
-pub fn play(log: &[u8], tail: usize, record: Record, table: &mut [u8], stop: u64) -> Said {
-    let (answer, left) = replica::play(log, tail, record, table, stop);
+pub fn play(
+    dir: &[u8],
+    log: &[u8],
+    tail: usize,
+    record: Record,
+    table: &mut [u8],
+    stop: u64,
+) -> Said {
+    let (answer, left) = replica::play(dir, log, tail, record, table, stop);
     said_with(answer, numbers(left))
 }
 
 /// `out` of cell reading (14.4).
-pub fn read_cell(record: Record, table: &[u8], object: u32, key: u32) -> Said {
+pub fn read_cell(dir: &[u8], record: Record, table: &[u8], object: u32, key: u32) -> Said {
     said(
-        replica::read_cell(&record, table, object, key),
+        replica::read_cell(dir, &record, table, object, key),
         |cell| match cell {
             Cell::NeverWritten => [0; 3],
             Cell::Holds { value, version } => [1, u64::from(value), version],
@@ -142,7 +149,7 @@ pub fn read_cell(record: Record, table: &[u8], object: u32, key: u32) -> Said {
 }
 
 /// `out` of the audit: the record as left (14.4).
-pub fn audit(log: &[u8], tail: usize, scratch: &mut [u8]) -> Said {
-    let (answer, record) = audit::audit(log, tail, scratch);
+pub fn audit(dir: &[u8], log: &[u8], tail: usize, scratch: &mut [u8]) -> Said {
+    let (answer, record) = audit::audit(dir, log, tail, scratch);
     said_with(answer, numbers(record))
 }

@@ -3,19 +3,21 @@
 use crate::append::Request;
 use crate::bytes::{put16, put32, put64};
 use crate::cases::{case, transactions, Case, Expected};
+use crate::directory::{eight, places};
+use crate::earlier::Earlier;
 use crate::header::Header;
 use crate::log::pass;
-use crate::objects::ids;
+use crate::objects::objects as objects_of_eight;
 use crate::sample::*;
 use crate::slot::{write_slot, Kind, Saved, Verdict, ABORT, COMMIT, SLOT};
 use crate::table::Row;
 
 /// Adds a slot with the right pointers, whatever the other rules say of it.
-fn forge(log: &mut Vec<u8>, kind: Kind, number: u32, objects: u8, items: &[u8]) {
+fn forge(log: &mut Vec<u8>, kind: Kind, number: u32, objects: u64, items: &[u8]) {
     let tail = log.len() / SLOT;
-    let earlier = pass(log, tail).unwrap_or_default();
-    let headers: Vec<Header> = ids(objects)
-        .map(|object| Header::made(object, tail, earlier.nearest(object)))
+    let earlier = pass(eight(), log, tail).map_or(Earlier::default(), |(_, earlier)| earlier);
+    let headers: Vec<Header> = places(objects)
+        .map(|place| Header::made(objects_of_eight()[place].id, tail, earlier.nearest(place)))
         .collect();
     log.resize(log.len() + SLOT, 0);
     write_slot(slot_mut(log, tail), kind, number, &headers, items);
@@ -67,7 +69,7 @@ impl Breaker {
         at: usize,
         kind: Kind,
         number: u32,
-        objects: u8,
+        objects: u64,
         items: &[u8],
     ) {
         let mut log = self.base[..at * SLOT].to_vec();

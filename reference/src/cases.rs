@@ -3,6 +3,7 @@
 
 use crate::append::{Request, Writer};
 use crate::broken::broken;
+use crate::directory::the_eight;
 use crate::random::{damage, History, Mix, Random};
 use crate::sample::*;
 use crate::slot::{ABORT, COMMIT, SLOT};
@@ -184,8 +185,8 @@ fn checkpoints() -> Vec<Request> {
         update(0, &[remove(2, 3), put(2, 499, 0)]),
     ];
     let (_, run) = grown(3, &requests);
-    requests.push(checkpoint_of(2, 3, &rows_of(&run, 0b10)));
-    requests.push(checkpoint_of(6, 4, &rows_of(&run, 0b10_0000)));
+    requests.push(checkpoint_of(2, 3, &rows_of(the_eight(), &run, 0b10)));
+    requests.push(checkpoint_of(6, 4, &rows_of(the_eight(), &run, 0b10_0000)));
     requests.push(checkpoint_of(4, 5, &[]));
     requests.push(update(0, &[put(2, 7, 1)]));
     let twelve: Vec<Row> = (0..12).map(|key| Row::of(2, key, Some(key), 1)).collect();

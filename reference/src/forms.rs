@@ -6,6 +6,7 @@ use std::fmt::Write;
 
 use crate::appending::junk;
 use crate::cases::{frames, good, random, Case};
+use crate::directory::eight;
 use crate::log::{list, next};
 use crate::playing::{record, record_shown, words};
 use crate::replica::{play, Record};
@@ -93,7 +94,7 @@ fn run_bytes(run: &Run) -> Vec<u8> {
     let mut bytes = Vec::new();
     bytes.extend((run.table.len() as u32).to_be_bytes());
     bytes.extend(&run.table);
-    bytes.extend(u32::from(run.record.hosted).to_be_bytes());
+    bytes.extend((run.record.hosted as u32).to_be_bytes());
     bytes.extend(run.record.position.to_be_bytes());
     bytes.extend(run.record.count.to_be_bytes());
     bytes.extend((run.instalments.len() as u32).to_be_bytes());
@@ -133,9 +134,9 @@ fn print_streams(text: &mut String, log: &[u8], tail: usize, object: u32) {
 /// refuse.
 fn stream(log: &[u8], tail: usize, object: u32, from: u64) -> (String, u64) {
     let mut lent = vec![0; 64];
-    let answer = list(log, tail, object, &mut lent);
+    let answer = list(eight(), log, tail, object, &mut lent);
     if !answer.is_done() || from > tail as u64 {
-        let (answer, reader) = next(log, tail, object, from);
+        let (answer, reader) = next(eight(), log, tail, object, from);
         return (answer.shown(|_| unreachable!("it is refused")), reader);
     }
     let count = answer.done().unwrap_or(0);
@@ -150,7 +151,7 @@ fn print_run(text: &mut String, log: &[u8], run: &Run) {
     let mut table = run.table.clone();
     let mut at = run.record;
     for &(tail, stop) in &run.instalments {
-        let (answer, left) = play(log, tail as usize, at, &mut table, stop);
+        let (answer, left) = play(eight(), log, tail as usize, at, &mut table, stop);
         at = left;
         let shown = answer.shown(|()| "done".to_string());
         let _ = writeln!(text, "play {shown} {}", record_shown(left));
@@ -158,7 +159,7 @@ fn print_run(text: &mut String, log: &[u8], run: &Run) {
     // One play of the whole leaves the same record and table.
     let mut whole = run.table.clone();
     if let Some(&(tail, stop)) = run.instalments.last() {
-        let (_, left) = play(log, tail as usize, run.record, &mut whole, stop);
+        let (_, left) = play(eight(), log, tail as usize, run.record, &mut whole, stop);
         assert!(left == at && whole == table, "instalments leave the same");
     }
     let _ = writeln!(text, "left {}", record_shown(at));

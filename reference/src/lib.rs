@@ -12,6 +12,8 @@ pub mod boundary;
 pub mod broken;
 pub mod bytes;
 pub mod cases;
+pub mod directing;
+pub mod directory;
 pub mod earlier;
 pub mod examples;
 pub mod forms;

@@ -1,4 +1,6 @@
-//! The directory (1.1), and sets of objects as one byte (7.2).
+//! What an object is; and the eight of the depots (1.1), by which `playlog`, the stored vectors and the sample logs go.
+
+use crate::directory::the_eight;
 
 #[derive(Clone, Copy, Debug, PartialEq, Eq)]
 pub enum Structure {
@@ -14,73 +16,39 @@ pub struct Object {
     pub marked: bool,
 }
 
-const fn map(id: u32, highest_key: u32, marked: bool) -> Object {
-    Object {
-        id,
-        structure: Structure::Map,
-        highest_key,
-        marked,
-    }
+/// The eight.
+pub fn objects() -> &'static [Object] {
+    the_eight().objects()
 }
 
-/// A register's highest key is 0 (1.2).
-const fn register(id: u32, marked: bool) -> Object {
-    Object {
-        id,
-        structure: Structure::Register,
-        highest_key: 0,
-        marked,
-    }
-}
-
-pub const OBJECTS: [Object; 8] = [
-    map(1, 9999, true),
-    map(2, 499, false),
-    map(3, 499, true),
-    map(4, 499, true),
-    map(5, 9999, false),
-    register(6, true),
-    register(7, false),
-    register(8, false),
-];
-
-/// The object of that id, if it is in the list.
+/// The one of the eight with that id.
 pub fn object(id: u32) -> Option<&'static Object> {
-    OBJECTS.get((id as usize).wrapping_sub(1))
+    the_eight().object(id)
 }
 
 pub fn is_object(id: u32) -> bool {
-    object(id).is_some()
+    the_eight().is_object(id)
 }
 
-/// Whether it is a cell of the directory (1.3).
+/// Whether it is a cell of the eight.
 pub fn is_cell(id: u32, key: u32) -> bool {
-    object(id).is_some_and(|object| key <= object.highest_key)
+    the_eight().is_cell(id, key)
 }
 
 pub fn is_marked(id: u32) -> bool {
-    object(id).is_some_and(|object| object.marked)
+    the_eight().is_marked(id)
 }
 
-/// The set of one object; of an id that is not in the list, the empty set.
-pub fn set_of(id: u32) -> u8 {
-    if is_object(id) {
-        1 << (id - 1)
-    } else {
-        0
-    }
+/// The set of one of the eight; of another id, the empty set.
+pub fn set_of(id: u32) -> u64 {
+    the_eight().set_of(id)
 }
 
-pub fn has(set: u8, id: u32) -> bool {
-    set & set_of(id) != 0
+pub fn has(set: u64, id: u32) -> bool {
+    the_eight().has(set, id)
 }
 
-/// The ids of a set, ascending.
-pub fn ids(set: u8) -> impl Iterator<Item = u32> {
-    let mut rest = set;
-    std::iter::from_fn(move || {
-        let lowest = rest.trailing_zeros();
-        rest &= rest.wrapping_sub(1);
-        (lowest < 8).then_some(lowest + 1)
-    })
+/// The ids of a set of the eight, ascending.
+pub fn ids(set: u64) -> impl Iterator<Item = u32> {
+    the_eight().ids(set)
 }

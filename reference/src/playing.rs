@@ -14,13 +14,14 @@ use std::fmt::Write;
 
 use crate::answer::Answer;
 use crate::audit::audit;
+use crate::directory::eight;
 use crate::replica::{open_at, open_fresh, play, read_cell, Record};
 use crate::table::{put_row, Cell, Row};
 
 /// One request.
 #[derive(Clone, Copy, Debug, PartialEq, Eq)]
 pub enum Request {
-    Open { hosted: u8 },
+    Open { hosted: u64 },
     Play { tail: u32, stop: u64 },
     Cell { object: u32, key: u32 },
     OpenAt { tail: u32, offset: u64 },
@@ -66,25 +67,26 @@ impl Case {
         for &request in &self.requests {
             said.push(match request {
                 Request::Open { hosted } => {
-                    let answer = open_fresh(hosted);
+                    let answer = open_fresh(eight(), hosted);
                     record = answer.done().unwrap_or(record);
                     Said::Opened(answer)
                 }
                 Request::Play { tail, stop } => {
-                    let (answer, left) = play(&self.log, tail as usize, record, &mut table, stop);
+                    let (answer, left) =
+                        play(eight(), &self.log, tail as usize, record, &mut table, stop);
                     record = left;
                     Said::Played(answer, left)
                 }
                 Request::Cell { object, key } => {
-                    Said::Read(read_cell(&record, &table, object, key))
+                    Said::Read(read_cell(eight(), &record, &table, object, key))
                 }
                 Request::OpenAt { tail, offset } => {
-                    let answer = open_at(&self.log, tail as usize, offset, &mut table);
+                    let answer = open_at(eight(), &self.log, tail as usize, offset, &mut table);
                     record = answer.done().unwrap_or(record);
                     Said::Restored(answer)
                 }
                 Request::Audit { tail } => {
-                    let (answer, left) = audit(&self.log, tail as usize, &mut table);
+                    let (answer, left) = audit(eight(), &self.log, tail as usize, &mut table);
                     record = left;
                     Said::Audited(answer, left)
                 }
@@ -149,7 +151,7 @@ impl Asking {
     }
 
     /// Opens fresh; hosted set 0 is refused.
-    pub fn opens(&mut self, hosted: u8) {
+    pub fn opens(&mut self, hosted: u64) {
         let answer = if hosted == 0 {
             refused(10)
         } else {
@@ -199,7 +201,7 @@ impl Asking {
     }
 
     /// An opening at a checkpoint that is done.
-    pub fn restores(&mut self, tail: u32, offset: u64, hosted: u8, count: u64) {
+    pub fn restores(&mut self, tail: u32, offset: u64, hosted: u64, count: u64) {
         self.record = record(hosted, offset + 1, count);
         let said = Said::Restored(Answer::Done(self.record));
         self.ask(Request::OpenAt { tail, offset }, said);
@@ -283,7 +285,7 @@ impl Asking {
     }
 }
 
-pub fn record(hosted: u8, position: u64, count: u64) -> Record {
+pub fn record(hosted: u64, position: u64, count: u64) -> Record {
     Record {
         hosted,
         position,
@@ -303,7 +305,7 @@ pub fn input(cases: &[Case]) -> Vec<u8> {
         bytes.extend(&case.log);
         bytes.extend((case.table.len() as u32).to_be_bytes());
         bytes.extend(&case.table);
-        bytes.extend(u32::from(case.record.hosted).to_be_bytes());
+        bytes.extend((case.record.hosted as u32).to_be_bytes());
         bytes.extend(case.record.position.to_be_bytes());
         bytes.extend(case.record.count.to_be_bytes());
         bytes.extend((case.requests.len() as u32).to_be_bytes());
@@ -320,7 +322,7 @@ pub fn request_bytes(request: &Request) -> Vec<u8> {
     match request {
         Request::Open { hosted } => {
             bytes.extend(1_u32.to_be_bytes());
-            bytes.extend(u32::from(*hosted).to_be_bytes());
+            bytes.extend((*hosted as u32).to_be_bytes());
         }
         Request::Play { tail, stop } => {
             bytes.extend(2_u32.to_be_bytes());

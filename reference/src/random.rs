@@ -5,7 +5,11 @@ use std::collections::BTreeMap;
 
 use crate::answer::Answer;
 use crate::append::{Request, Writer};
-use crate::objects::{ids, object, set_of};
+use crate::bytes::put32;
+use crate::directory::{
+    bytes_of, fault, the_eight, Directory, HIGHEST_ID, HIGHEST_KEY, MOST_RECORDS, RECORD,
+};
+use crate::objects::{Object, Structure};
 use crate::replica::Record;
 use crate::run::Run;
 use crate::sample::{
@@ -81,9 +85,11 @@ pub fn junk(random: &mut Random, longest: u64) -> Vec<u8> {
 #[derive(Clone, Copy, Debug)]
 pub struct Mix {
     /// The objects in use.
-    pub objects: u8,
+    pub objects: u64,
     /// How many keys of each object are in use.
     pub keys: u32,
+    /// Chance in percent that a key is counted down from the object's highest.
+    pub far_keys: u64,
     /// How many transactions are open at once.
     pub open: usize,
     /// Transaction numbers are multiples of it.
@@ -107,6 +113,7 @@ impl Mix {
         Mix {
             objects: 0xFF,
             keys: 3,
+            far_keys: 0,
             open: 4,
             stride: 1,
             stale: 15,
@@ -141,6 +148,20 @@ impl Mix {
         }
     }
 
+    /// Over a directory: up to so many of its objects are in use, with keys near 0 and near the highest.
+    pub fn over(self, directory: &Directory, random: &mut Random, most: u64) -> Mix {
+        let records = directory.objects().len() as u64;
+        let mut objects = 0;
+        for _ in 0..most {
+            objects |= 1 << random.below(records);
+        }
+        Mix {
+            objects,
+            far_keys: 40,
+            ..self
+        }
+    }
+
     /// As rough, with two objects of many keys, so that a checkpoint may have too many cells.
     pub fn crowded() -> Mix {
         Mix {
@@ -171,11 +192,16 @@ pub struct History {
 }
 
 impl History {
+    /// Over the eight.
     pub fn new(seed: u64, slots: usize, mix: Mix) -> History {
+        History::over(the_eight().clone(), seed, slots, mix)
+    }
+
+    pub fn over(directory: Directory, seed: u64, slots: usize, mix: Mix) -> History {
         History {
             random: Random::new(seed),
             mix,
-            writer: Writer::new(slots),
+            writer: Writer::over(directory, slots),
             run: Run::new(),
             appends: Vec::new(),
             open: Vec::new(),
@@ -199,7 +225,8 @@ impl History {
     pub fn step(&mut self) -> Answer<usize> {
         let mut request = self.request();
         if self.random.percent(self.mix.broken) {
-            broken(&mut self.random, &mut request, self.writer.tail);
+            let (directory, tail) = (&self.writer.directory, self.writer.tail);
+            broken(directory, &mut self.random, &mut request, tail);
         }
         self.append(request)
     }
@@ -264,11 +291,18 @@ impl History {
     }
 
     fn cell(&mut self) -> (u32, u32) {
-        let objects: Vec<u32> = ids(self.mix.objects).collect();
-        let id = self.random.pick(&objects).unwrap_or(1);
-        let highest = object(id).map_or(0, |object| object.highest_key);
+        let directory = &self.writer.directory;
+        let objects: Vec<Object> = directory.objects_of(self.mix.objects).copied().collect();
+        let (id, highest) = match self.random.pick(&objects) {
+            Some(object) => (object.id, object.highest_key),
+            None => (1, 0),
+        };
         let keys = self.mix.keys.min(highest + 1);
-        (id, self.random.below(u64::from(keys)) as u32)
+        let key = self.random.below(u64::from(keys)) as u32;
+        if self.mix.far_keys != 0 && self.random.percent(self.mix.far_keys) {
+            return (id, highest - key);
+        }
+        (id, key)
     }
 
     fn writes(&mut self) -> Vec<Write> {
@@ -372,8 +406,10 @@ impl History {
     /// A checkpoint from the run's cells; a false one has one cell changed.
     fn checkpoint(&mut self) -> Request {
         let (object, _) = self.cell();
-        let hosted = set_of(object) | self.random.number() as u8;
-        let mut rows = rows_of(&self.run, hosted);
+        let directory = &self.writer.directory;
+        let others = self.random.number() & directory.everything();
+        let hosted = directory.set_of(object) | others;
+        let mut rows = rows_of(directory, &self.run, hosted);
         self.shuffle(&mut rows);
         if self.random.percent(self.mix.false_checkpoints) {
             self.falsify(&mut rows, object);
@@ -438,6 +474,81 @@ impl History {
     }
 }
 
+/// A directory without fault: few objects or many, ids without a gap or far apart, registers, maps of one key up to the most.
+pub fn directory(random: &mut Random) -> Directory {
+    let count = match random.below(8) {
+        0 => 1,
+        1..=4 => 2 + random.below(7),
+        5..=6 => 9 + random.below(56),
+        _ => MOST_RECORDS as u64,
+    };
+    // 64 times the widest gap is an id.
+    let gap = random.pick(&[1, 1, 3, 1000, 33_000_000]).unwrap_or(1);
+    let mut objects: Vec<Object> = Vec::new();
+    let mut id = 0;
+    for _ in 0..count {
+        id += 1 + random.below(gap) as u32;
+        objects.push(any_object(random, id));
+    }
+    if let Some(last) = objects.last_mut().filter(|_| random.percent(25)) {
+        last.id = HIGHEST_ID;
+    }
+    Directory::of(&bytes_of(&objects)).expect("a directory without fault")
+}
+
+fn any_object(random: &mut Random, id: u32) -> Object {
+    let is_map = random.percent(75);
+    let highest = match random.below(10) {
+        0..=1 => 0,
+        2..=3 => 1 + random.below(3) as u32,
+        4 => 499,
+        5 => 9999,
+        6 => random.number() as u32 / 2,
+        _ => HIGHEST_KEY - random.below(2) as u32,
+    };
+    Object {
+        id,
+        structure: match is_map {
+            true => Structure::Map,
+            false => Structure::Register,
+        },
+        highest_key: if is_map { highest } else { 0 },
+        marked: random.percent(50),
+    }
+}
+
+/// The bytes of a directory with a fault.
+pub fn faulty_directory(random: &mut Random) -> Vec<u8> {
+    let mut bytes = directory(random).bytes();
+    while fault(&bytes).is_none() {
+        let records = (bytes.len() / RECORD) as u64;
+        let place = RECORD * random.below(records) as usize;
+        match random.below(10) {
+            0 => bytes.clear(),
+            1 => bytes.truncate(random.below(bytes.len() as u64) as usize),
+            2 => bytes.extend(junk(random, 40)),
+            3 => too_many(random, &mut bytes),
+            4 => {
+                let other = RECORD * random.below(records) as usize;
+                let record = bytes[other..other + RECORD].to_vec();
+                bytes[place..place + RECORD].copy_from_slice(&record);
+            }
+            5 => put32(&mut bytes, place + 4, edge(random) as u32),
+            6 => put32(&mut bytes, place + 8, edge(random) as u32),
+            7 => bytes[place + 12 + random.below(2) as usize] = random.below(4) as u8,
+            _ => flip(random, &mut bytes),
+        }
+    }
+    bytes
+}
+
+/// 65 to 69 records that have no fault of their own.
+fn too_many(random: &mut Random, bytes: &mut Vec<u8>) {
+    let count = MOST_RECORDS as u32 + 1 + random.below(5) as u32;
+    let objects: Vec<Object> = (1..=count).map(|id| any_object(random, 5 * id)).collect();
+    *bytes = bytes_of(&objects);
+}
+
 /// The rows as a table has them: ascending, the first of each cell.
 pub fn put_in_order(rows: &mut Vec<Row>) {
     rows.sort_by_key(|row| (row.object, row.key));
@@ -445,7 +556,7 @@ pub fn put_in_order(rows: &mut Vec<Row>) {
 }
 
 /// Breaks one argument of a request.
-pub fn broken(random: &mut Random, request: &mut Request, tail: usize) {
+pub fn broken(directory: &Directory, random: &mut Random, request: &mut Request, tail: usize) {
     match request {
         Request::Update { items, .. } => break_items(random, items),
         Request::Commit { number, reads } => match random.below(4) {
@@ -471,7 +582,7 @@ pub fn broken(random: &mut Random, request: &mut Request, tail: usize) {
             3 => record.position = (tail as u64).saturating_sub(1),
             4 => *object = random.below(10) as u32,
             5 => record.count = u64::MAX,
-            6 => record.hosted ^= set_of(*object),
+            6 => record.hosted ^= directory.set_of(*object),
             _ => flip(random, table),
         },
     }

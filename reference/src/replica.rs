@@ -3,16 +3,17 @@
 use crate::answer::{
     refuse, refuse_if, Answer, Refusal, BAD_REPLICA, BAD_REQUEST, NO_ROOM, WAITING,
 };
+use crate::directory::Directory;
 use crate::earlier::Earlier;
 use crate::log::{below, pass};
-use crate::objects::{has, is_cell, set_of};
 use crate::slot::{slot_at, Kind, Slot, Write, COMMIT, PUT};
-use crate::table::{capacity, in_order, put_row, row, search, Cell, Index, Row};
+use crate::table::{capacity, in_order, put_row, row, search, Cell, Index, Named, Row};
 
 /// The part of a replica that is not its table.
 #[derive(Clone, Copy, Debug, PartialEq, Eq)]
 pub struct Record {
-    pub hosted: u8,
+    /// By place in the directory (7.2).
+    pub hosted: u64,
     pub position: u64,
     pub count: u64,
 }
@@ -28,9 +29,9 @@ pub fn pointed_at(version: u64) -> usize {
 }
 
 /// 10 where no tail is given (7.9).
-pub fn replica_good(record: &Record, table: &[u8]) -> Result<(), Refusal> {
+pub fn replica_good(directory: &Directory, record: &Record, table: &[u8]) -> Result<(), Refusal> {
     refuse_if(
-        record.hosted == 0
+        !directory.can_host(record.hosted)
             || record.count > capacity(table) as u64
             || !in_order(table, record.count as usize),
         BAD_REPLICA,
@@ -38,13 +39,20 @@ pub fn replica_good(record: &Record, table: &[u8]) -> Result<(), Refusal> {
 }
 
 /// 10, with the position too (7.9).
-pub fn replica_good_at(record: &Record, table: &[u8], tail: usize) -> Result<(), Refusal> {
-    replica_good(record, table)?;
+pub fn replica_good_at(
+    directory: &Directory,
+    record: &Record,
+    table: &[u8],
+    tail: usize,
+) -> Result<(), Refusal> {
+    replica_good(directory, record, table)?;
     refuse_if(record.position > tail as u64, BAD_REPLICA)
 }
 
-pub fn open_fresh(hosted: u8) -> Answer<Record> {
-    refuse_if(hosted == 0, BAD_REPLICA)
+/// Opening fresh (8.1).
+pub fn open_fresh(dir: &[u8], hosted: u64) -> Answer<Record> {
+    Directory::of(dir)
+        .and_then(|directory| refuse_if(!directory.can_host(hosted), BAD_REPLICA))
         .map(|_| Record {
             hosted,
             position: 0,
@@ -54,12 +62,24 @@ pub fn open_fresh(hosted: u8) -> Answer<Record> {
 }
 
 /// Opening at a checkpoint (8.2).
-pub fn open_at(log: &[u8], tail: usize, offset: u64, table: &mut [u8]) -> Answer<Record> {
-    opened(log, tail, offset, table).into()
+pub fn open_at(
+    dir: &[u8],
+    log: &[u8],
+    tail: usize,
+    offset: u64,
+    table: &mut [u8],
+) -> Answer<Record> {
+    opened(dir, log, tail, offset, table).into()
 }
 
-fn opened(log: &[u8], tail: usize, offset: u64, table: &mut [u8]) -> Result<Record, Refusal> {
-    pass(log, tail)?;
+fn opened(
+    dir: &[u8],
+    log: &[u8],
+    tail: usize,
+    offset: u64,
+    table: &mut [u8],
+) -> Result<Record, Refusal> {
+    let (directory, _) = pass(dir, log, tail)?;
     let at = below(offset, tail)?;
     let slot = slot_at(log, at);
     refuse_if(slot.kind() != Some(Kind::Checkpoint), BAD_REQUEST)?;
@@ -74,7 +94,7 @@ fn opened(log: &[u8], tail: usize, offset: u64, table: &mut [u8]) -> Result<Reco
         );
     }
     Ok(Record {
-        hosted: set_of(object),
+        hosted: directory.set_of(object),
         position: offset + 1,
         count: slot.item_count() as u64,
     })
@@ -82,6 +102,7 @@ fn opened(log: &[u8], tail: usize, offset: u64, table: &mut [u8]) -> Result<Reco
 
 /// Plays up to a stop, and answers the record as it is left.
 pub fn play(
+    dir: &[u8],
     log: &[u8],
     tail: usize,
     record: Record,
@@ -89,33 +110,35 @@ pub fn play(
     stop: u64,
 ) -> (Answer<()>, Record) {
     let mut moved = record;
-    let answer = play_in_place(log, tail, &mut moved, table, stop);
+    let answer = play_in_place(dir, log, tail, &mut moved, table, stop);
     (answer, moved)
 }
 
 /// Play in place (9.13).
 pub fn play_in_place(
+    dir: &[u8],
     log: &[u8],
     tail: usize,
     record: &mut Record,
     table: &mut [u8],
     stop: u64,
 ) -> Answer<()> {
-    play_to(log, tail, record, table, stop).into()
+    play_to(dir, log, tail, record, table, stop).into()
 }
 
 fn play_to(
+    dir: &[u8],
     log: &[u8],
     tail: usize,
     record: &mut Record,
     table: &mut [u8],
     stop: u64,
 ) -> Result<(), Refusal> {
-    let earlier = pass(log, tail)?;
-    replica_good_at(record, table, tail)?;
+    let (directory, earlier) = pass(dir, log, tail)?;
+    replica_good_at(&directory, record, table, tail)?;
     refuse_if(stop > tail as u64 || stop < record.position, BAD_REQUEST)?;
     let entries = (stop - record.position) as usize;
-    let mut player = Player::new(log, &earlier, record, table, entries);
+    let mut player = Player::new(&directory, log, &earlier, record, table, entries);
     let mut answer = Ok(());
     while answer.is_ok() && record.position < stop {
         match player.step(record.position as usize) {
@@ -143,9 +166,10 @@ pub enum Step {
 
 /// Plays the entries of a checked log, one at a time, over a table. Rows that it adds are in order of first writing until `settle`.
 pub struct Player<'a> {
+    directory: &'a Directory,
     log: &'a [u8],
     earlier: &'a Earlier,
-    hosted: u8,
+    hosted: u64,
     table: &'a mut [u8],
     pub count: usize,
     index: Index,
@@ -156,6 +180,7 @@ pub struct Player<'a> {
 impl<'a> Player<'a> {
     /// For a record that is no bad replica, and so many entries.
     pub fn new(
+        directory: &'a Directory,
         log: &'a [u8],
         earlier: &'a Earlier,
         record: &Record,
@@ -163,8 +188,9 @@ impl<'a> Player<'a> {
         entries: usize,
     ) -> Player<'a> {
         let count = record.count as usize;
-        let index = Index::of(table, count, entries);
+        let index = Index::of(directory, table, count, entries);
         Player {
+            directory,
             log,
             earlier,
             hosted: record.hosted,
@@ -207,35 +233,49 @@ impl<'a> Player<'a> {
 
     /// The outcome, or none where it waits (9.7, 9.8).
     fn outcome(&self, commit: Slot, at: usize) -> Option<bool> {
-        if commit.reads().all(|read| has(self.hosted, read.object)) {
-            return Some(self.reads_current(commit));
+        let mut current = true;
+        for read in commit.reads() {
+            let Some(cell) = self.hosted_cell(read.object, read.key) else {
+                return self.earlier.decision(at).map(|outcome| outcome == COMMIT);
+            };
+            // a stale read (9.7)
+            current = current && read.version == self.version(cell);
         }
-        self.earlier.decision(at).map(|outcome| outcome == COMMIT)
+        Some(current)
     }
 
-    /// Whether no read is stale (9.7).
-    fn reads_current(&self, commit: Slot) -> bool {
-        commit
-            .reads()
-            .all(|read| read.version == self.version(read.object, read.key))
+    /// A cell of a checked log, if its object is hosted.
+    #[inline]
+    fn hosted_cell(&self, object: u32, key: u32) -> Option<Named> {
+        let of = self.directory.place(object)?;
+        (self.hosted >> of & 1 == 1).then_some(Named { of, object, key })
     }
 
-    fn version(&self, object: u32, key: u32) -> u64 {
-        self.row(object, key).map_or(0, |row| row.version)
+    fn hosts(&self, object: u32) -> bool {
+        self.directory.has(self.hosted, object)
+    }
+
+    /// The version of a cell; 0 where it has no row (1.5).
+    #[inline]
+    fn version(&self, cell: Named) -> u64 {
+        let place = self.index.find(self.table, cell);
+        place.map_or(0, |place| row(self.table, place).version)
     }
 
     fn find(&self, object: u32, key: u32) -> Option<usize> {
-        self.index.find(self.table, object, key)
+        let cell = self.hosted_cell(object, key)?;
+        self.index.find(self.table, cell)
     }
 
-    /// The row of a listed cell.
+    /// The row of a hosted cell.
     pub fn row(&self, object: u32, key: u32) -> Option<Row> {
         self.find(object, key).map(|place| row(self.table, place))
     }
 
-    /// How many cells of a listed object have got a row.
+    /// How many cells of an object of the directory have got a row.
     pub fn added_of(&self, object: u32) -> usize {
-        self.index.added_of(object)
+        let of = self.directory.place(object);
+        of.map_or(0, |of| self.index.added_of(of))
     }
 
     /// Puts the table in order, as every answer that leaves one played does (9.11, 11.2, 11.5).
@@ -251,8 +291,8 @@ impl<'a> Player<'a> {
         let version = version_at(at);
         for &update in updates {
             for write in slot_at(self.log, update).writes() {
-                if has(self.hosted, write.object) {
-                    self.write(write, version);
+                if let Some(cell) = self.hosted_cell(write.object, write.key) {
+                    self.write(cell, write, version);
                 }
             }
         }
@@ -260,10 +300,10 @@ impl<'a> Player<'a> {
     }
 
     /// One write (7.10); where its cell has no row, there is room for one.
-    fn write(&mut self, write: Write, version: u64) {
-        let place = match self.find(write.object, write.key) {
+    fn write(&mut self, cell: Named, write: Write, version: u64) {
+        let place = match self.index.find(self.table, cell) {
             Some(place) => place,
-            None => self.add(write.object, write.key),
+            None => self.add(cell),
         };
         let value = (write.operation == PUT).then_some(write.value);
         let row = Row::of(write.object, write.key, value, version);
@@ -271,9 +311,9 @@ impl<'a> Player<'a> {
     }
 
     /// A new row, for now after the counted ones.
-    fn add(&mut self, object: u32, key: u32) -> usize {
+    fn add(&mut self, cell: Named) -> usize {
         let place = self.count;
-        self.index.add(object, key, place);
+        self.index.add(cell, place);
         self.count += 1;
         place
     }
@@ -293,7 +333,7 @@ impl<'a> Player<'a> {
         let mut cells: Vec<(u32, u32)> = updates
             .iter()
             .flat_map(|&update| slot_at(self.log, update).writes())
-            .filter(|write| has(self.hosted, write.object))
+            .filter(|write| self.hosts(write.object))
             .map(|write| (write.object, write.key))
             .filter(|&(object, key)| self.find(object, key).is_none())
             .collect();
@@ -304,14 +344,21 @@ impl<'a> Player<'a> {
 }
 
 /// What a cell of the replica holds.
-pub fn read_cell(record: &Record, table: &[u8], object: u32, key: u32) -> Answer<Cell> {
-    cell_of(record, table, object, key).into()
+pub fn read_cell(dir: &[u8], record: &Record, table: &[u8], object: u32, key: u32) -> Answer<Cell> {
+    cell_of(dir, record, table, object, key).into()
 }
 
-fn cell_of(record: &Record, table: &[u8], object: u32, key: u32) -> Result<Cell, Refusal> {
-    replica_good(record, table)?;
+fn cell_of(
+    dir: &[u8],
+    record: &Record,
+    table: &[u8],
+    object: u32,
+    key: u32,
+) -> Result<Cell, Refusal> {
+    let directory = Directory::of(dir)?;
+    replica_good(&directory, record, table)?;
     refuse_if(
-        !is_cell(object, key) || !has(record.hosted, object),
+        !directory.is_cell(object, key) || !directory.has(record.hosted, object),
         BAD_REQUEST,
     )?;
     let found = search(table, record.count as usize, object, key);

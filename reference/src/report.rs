@@ -4,6 +4,7 @@ use std::fmt::Write;
 
 use crate::answer::{Answer, FRAME};
 use crate::audit::{audit_whole, Audited};
+use crate::directory::eight;
 use crate::slot::{slot_at, Kind, SLOT};
 use crate::table::{rows, CELL};
 
@@ -18,7 +19,7 @@ pub fn playlog(input: &[u8]) -> String {
     }
     let tail = input.len() / SLOT;
     let mut table = vec![0; TABLE_CELLS * CELL];
-    let audited = audit_whole(input, tail, &mut table);
+    let audited = audit_whole(eight(), input, tail, &mut table);
     match audited.answer {
         Answer::Refused { number, told } => refusal(number, told),
         Answer::Done(()) => outcomes(input, tail, &audited) + &cells(&table, &audited),

@@ -3,7 +3,7 @@
 use std::collections::{BTreeMap, HashMap};
 
 use crate::append::Request;
-use crate::objects::has;
+use crate::directory::Directory;
 use crate::slot::{reads_in, writes_in, Write, PUT};
 use crate::table::Cell;
 
@@ -76,8 +76,9 @@ impl Run {
     }
 
     /// How many cells of a set of objects have been written.
-    pub fn written_of(&self, hosted: u8) -> u64 {
-        self.cells.keys().filter(|cell| has(hosted, cell.0)).count() as u64
+    pub fn written_of(&self, directory: &Directory, hosted: u64) -> u64 {
+        let hosted = |cell: &&(u32, u32)| directory.has(hosted, cell.0);
+        self.cells.keys().filter(hosted).count() as u64
     }
 
     /// The outcome of the commit that was run with this count.

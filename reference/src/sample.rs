@@ -2,7 +2,8 @@
 
 use crate::answer::{Answer, ASTRAY};
 use crate::append::{Request, Writer};
-use crate::objects::has;
+use crate::directory::{eight, Directory};
+use crate::objects::set_of;
 use crate::replica::{open_fresh, play, Record};
 use crate::run::Run;
 use crate::slot::{Read, Write, ITEM, ITEMS_AT, PUT, REMOVE, SLOT};
@@ -69,7 +70,7 @@ pub fn table_of(rows: &[Row]) -> Vec<u8> {
 pub fn checkpoint_of(object: u32, position: usize, rows: &[Row]) -> Request {
     Request::Checkpoint {
         record: Record {
-            hosted: crate::objects::set_of(object),
+            hosted: set_of(object),
             position: position as u64,
             count: rows.len() as u64,
         },
@@ -78,22 +79,22 @@ pub fn checkpoint_of(object: u32, position: usize, rows: &[Row]) -> Request {
     }
 }
 
-/// A full replica played to the tail, with room for `cells` cells.
-pub fn played(log: &[u8], tail: usize, hosted: u8, cells: usize) -> (Record, Vec<u8>) {
+/// A replica over the eight played to the tail, with room for `cells` cells.
+pub fn played(log: &[u8], tail: usize, hosted: u64, cells: usize) -> (Record, Vec<u8>) {
     let mut table = vec![0; cells * CELL];
-    let fresh = open_fresh(hosted).done().unwrap_or(Record {
+    let fresh = open_fresh(eight(), hosted).done().unwrap_or(Record {
         hosted,
         position: 0,
         count: 0,
     });
-    let (_, record) = play(log, tail, fresh, &mut table, tail as u64);
+    let (_, record) = play(eight(), log, tail, fresh, &mut table, tail as u64);
     (record, table)
 }
 
 /// The table rows of the run's written cells of a set of objects, by object and key.
-pub fn rows_of(run: &Run, hosted: u8) -> Vec<Row> {
+pub fn rows_of(directory: &Directory, run: &Run, hosted: u64) -> Vec<Row> {
     run.written()
-        .filter(|((object, _), _)| has(hosted, *object))
+        .filter(|((object, _), _)| directory.has(hosted, *object))
         .map(|((object, key), cell)| match cell {
             Cell::Holds { value, version } => Row::of(object, key, Some(value), version),
             _ => Row::of(object, key, None, cell.version()),

@@ -66,6 +66,25 @@
 //!   bytes stop. For each instalment, on the record and table that the last left: `play done H P C` or `play refused N at
 //!   K H P C`, with the record as left. At the end of a run: `left H P C`, and `table` as above.
 //!
+//! # Directories
+//!
+//! A case is 4 bytes length of the directory in bytes, the directory's bytes, 4 bytes length of the log in bytes, the log's bytes, 4
+//! bytes tail T, 8 bytes hosted set, 4 bytes object x, 4 bytes key. A line for each call:
+//!
+//! - `check done`; `owed none` or `owed OFFSET`; `entry KIND NUMBER HEADERS ITEMS` of offset 3; `items` of offset 3 as above.
+//! - `next OFFSET r` or `next end r` of object x from 1, with r as above. `list COUNT` of object x, with a lent list of 3 numbers filled
+//!   with 77777, and then its numbers.
+//! - `update done T`, a plain put of 1 to the cell; `commit done T` of number 9, which reads the cell with version 0; `decision done T`,
+//!   of offset 3 with outcome 1; `checkpoint done T` of object x, from a record of the hosted set, T and count 0 with a table of 96 bytes
+//!   of zero. Each is made on a copy of the log, and its line goes on with the last 256 bytes of that log afterwards, or all where
+//!   they are fewer, as 4-byte words.
+//! - `open done H P C` of the hosted set; `restore done H P C` of offset 0 into a table of 96 bytes of zero; `play done H P C` on the same
+//!   table to T, from a record of the hosted set, 0 and 0, with the record as left, refused too; `table` as above.
+//! - `cell never`, `cell value V VERSION` or `cell removed VERSION` of that record and table.
+//! - `audit done H P C` with another table of 96 bytes of zero, the record as left, refused too; `table` as above.
+//!
+//! Refused, a line has `refused N at K` in the place of what is done.
+//!
 //! # Playlog
 //!
 //! stdin is the bench log, stdout what `playlog` prints of it (`report`).
@@ -75,6 +94,8 @@ use std::fmt::Write;
 use crate::appending::{self, appending};
 use crate::auditing::auditing;
 use crate::cases::reading;
+use crate::directing::{self, directing};
+use crate::directory::eight;
 use crate::forms;
 use crate::log::{check, entry, header, items, list, next, owed};
 use crate::playing::{self, playing};
@@ -85,11 +106,12 @@ use crate::Answer;
 const FILLED: u32 = 77_777;
 
 /// The programs that have stored vectors.
-pub const PROGRAMS: [&str; 5] = [
+pub const PROGRAMS: [&str; 6] = [
     "test_reading",
     "test_appending",
     "test_replicas",
     "test_forms",
+    "test_directories",
     "playlog",
 ];
 
@@ -108,6 +130,7 @@ pub fn vectors(program: &str) -> Option<Vectors> {
         "test_replicas" => Some(of_replicas()),
         "test_forms" => Some(of_forms()),
         "playlog" => Some(of_playlog()),
+        "test_directories" => Some(of_directories()),
         _ => None,
     }
 }
@@ -139,6 +162,15 @@ fn of_forms() -> Vectors {
     }
 }
 
+fn of_directories() -> Vectors {
+    let cases = directing();
+    Vectors {
+        cases: cases.len(),
+        input: directing::input(&cases),
+        output: directing::output(&cases),
+    }
+}
+
 fn of_playlog() -> Vectors {
     let input = log_of(&bench());
     Vectors {
@@ -166,8 +198,10 @@ fn of_reading() -> Vectors {
 }
 
 fn print_case(text: &mut String, log: &[u8], tail: usize) {
-    line(text, "check", check(log, tail), |()| "done".to_string());
-    line(text, "owed", owed(log, tail), |owed| {
+    line(text, "check", check(eight(), log, tail), |()| {
+        "done".to_string()
+    });
+    line(text, "owed", owed(eight(), log, tail), |owed| {
         owed.map_or("none".to_string(), |offset| offset.to_string())
     });
     let last = tail as u64;
@@ -202,14 +236,14 @@ fn line<T>(text: &mut String, name: &str, answer: Answer<T>, done: impl FnOnce(T
 }
 
 fn print_entry(text: &mut String, log: &[u8], tail: usize, offset: u64) {
-    let answer = entry(log, tail, offset);
+    let answer = entry(eight(), log, tail, offset);
     line(text, &format!("entry {offset}"), answer, |entry| {
         let mut shown = format!(
             "{} {} {} {}",
             entry.kind as u32, entry.number, entry.headers, entry.items
         );
         for place in 0..entry.headers as u32 {
-            if let Answer::Done(header) = header(log, tail, offset, place) {
+            if let Answer::Done(header) = header(eight(), log, tail, offset, place) {
                 let _ = write!(
                     shown,
                     " {} {} {}",
@@ -220,7 +254,7 @@ fn print_entry(text: &mut String, log: &[u8], tail: usize, offset: u64) {
         shown
     });
     let _ = write!(text, "items {offset}");
-    for word in items(log, tail, offset).chunks_exact(4) {
+    for word in items(eight(), log, tail, offset).chunks_exact(4) {
         let word = u32::from_be_bytes([word[0], word[1], word[2], word[3]]);
         let _ = write!(text, " {word}");
     }
@@ -228,14 +262,14 @@ fn print_entry(text: &mut String, log: &[u8], tail: usize, offset: u64) {
 }
 
 fn print_next(text: &mut String, log: &[u8], tail: usize, object: u32, from: u64) {
-    let (answer, reader) = next(log, tail, object, from);
+    let (answer, reader) = next(eight(), log, tail, object, from);
     let shown = answer.shown(|next| next.map_or("end".to_string(), |offset| offset.to_string()));
     let _ = writeln!(text, "next {object} {from} {shown} {reader}");
 }
 
 fn print_list(text: &mut String, log: &[u8], tail: usize, object: u32, length: usize) {
     let mut lent = vec![FILLED; length];
-    let answer = list(log, tail, object, &mut lent);
+    let answer = list(eight(), log, tail, object, &mut lent);
     let shown = answer.shown(|count| count.to_string());
     let _ = write!(text, "list {object} {length} {shown}");
     for number in lent {

@@ -7,7 +7,9 @@ use reference::append::{self, Request};
 use reference::appending::{
     appending, histories, input, named, orders, output, request_bytes, Case,
 };
+use reference::directory::eight;
 use reference::log::{check, entry, header, items};
+use reference::random::{broken, directory, History, Mix, Random};
 use reference::replica::Record;
 use reference::sample::*;
 use reference::slot::{Kind, SLOT};
@@ -95,14 +97,14 @@ fn only_the_slot_at_the_tail_is_written() {
         let (mut log, mut tail) = (case.log.clone(), case.tail as usize);
         for request in &case.requests {
             let before = log.clone();
-            let Done(after) = append::request(&mut log, tail, request) else {
+            let Done(after) = append::request(eight(), &mut log, tail, request) else {
                 assert_eq!(log, before, "{}", case.name);
                 continue;
             };
             assert_eq!(after, tail + 1);
             assert_eq!(log[..tail * SLOT], before[..tail * SLOT]);
             assert_eq!(log[after * SLOT..], before[after * SLOT..]);
-            assert_eq!(check(&log, after), Done(()));
+            assert_eq!(check(eight(), &log, after), Done(()));
             let (kind, stored) = match request {
                 Request::Update { items, .. } => (Kind::Update, items.clone()),
                 Request::Commit { reads, .. } => (Kind::Commit, reads.clone()),
@@ -121,8 +123,14 @@ fn only_the_slot_at_the_tail_is_written() {
                     (Kind::Checkpoint, saved_items(&cells))
                 }
             };
-            assert_eq!(entry(&log, after, tail as u64).done().unwrap().kind, kind);
-            assert_eq!(items(&log, after, tail as u64), stored);
+            assert_eq!(
+                entry(eight(), &log, after, tail as u64)
+                    .done()
+                    .unwrap()
+                    .kind,
+                kind
+            );
+            assert_eq!(items(eight(), &log, after, tail as u64), stored);
             tail = after;
         }
         assert_eq!(case.outcome().log, log);
@@ -132,6 +140,7 @@ fn only_the_slot_at_the_tail_is_written() {
 /// What the entries of a log mean to later appends, kept in plain sets.
 #[derive(Default)]
 struct Judge {
+    dir: Vec<u8>,
     slots: u64,
     tail: u64,
     objects: BTreeMap<u32, BTreeSet<u32>>,
@@ -149,33 +158,36 @@ fn get(bytes: &[u8], at: usize, length: usize) -> u64 {
         .fold(0, |number, byte| number << 8 | u64::from(*byte))
 }
 
-fn is_cell(object: u64, key: u64) -> bool {
-    match object {
-        1 | 5 => key <= 9999,
-        2..=4 => key <= 499,
-        6..=8 => key == 0,
-        _ => false,
-    }
-}
-
 impl Judge {
+    /// The record's place, as it stands in the directory's bytes.
+    fn place(&self, object: u64) -> Option<usize> {
+        let mut records = self.dir.chunks(16);
+        records.position(|record| get(record, 4, 4) == object)
+    }
+
+    fn is_cell(&self, object: u64, key: u64) -> bool {
+        let place = self.place(object);
+        place.is_some_and(|place| key <= get(&self.dir, 16 * place + 8, 4))
+    }
+
     /// A good log, read with the reading calls.
-    fn of(log: &[u8], tail: usize) -> Judge {
+    fn of(dir: &[u8], log: &[u8], tail: usize) -> Judge {
         let mut judge = Judge {
+            dir: dir.to_vec(),
             slots: (log.len() / SLOT) as u64,
             ..Judge::default()
         };
         for at in 0..tail as u64 {
-            let told = entry(log, tail, at).done().unwrap();
+            let told = entry(dir, log, tail, at).done().unwrap();
             let objects = (0..told.headers as u32)
-                .map(|place| header(log, tail, at, place).done().unwrap().object);
+                .map(|place| header(dir, log, tail, at, place).done().unwrap().object);
             match told.kind {
                 Kind::Update => {
                     judge.updated(told.number, objects.collect());
-                    judge.wrote(told.number, items(log, tail, at));
+                    judge.wrote(told.number, items(dir, log, tail, at));
                 }
                 Kind::Commit => judge.committed(told.number),
-                Kind::Decision => judge.decide(get(items(log, tail, at), 0, 8)),
+                Kind::Decision => judge.decide(get(items(dir, log, tail, at), 0, 8)),
                 Kind::Checkpoint => {}
             }
             judge.tail += 1;
@@ -261,7 +273,7 @@ impl Judge {
         for item in items.chunks(16) {
             let (operation, value) = (get(item, 8, 4), get(item, 12, 4));
             let known = operation == 1 || operation == 2 && value == 0;
-            if !is_cell(get(item, 0, 4), get(item, 4, 4)) || !known {
+            if !self.is_cell(get(item, 0, 4), get(item, 4, 4)) || !known {
                 return 3;
             }
         }
@@ -292,7 +304,9 @@ impl Judge {
             .map(|item| (get(item, 0, 4), get(item, 4, 4)))
             .collect();
         let sorted = cells.windows(2).all(|pair| pair[0] < pair[1]);
-        let known = cells.iter().all(|(object, key)| is_cell(*object, *key));
+        let known = cells
+            .iter()
+            .all(|(object, key)| self.is_cell(*object, *key));
         let old = reads.chunks(16).all(|item| get(item, 8, 8) <= self.tail);
         if !sorted || !known || !old {
             3
@@ -321,7 +335,8 @@ impl Judge {
 
     fn checkpoint(&self, record: &Record, table: &[u8], object: u64) -> u32 {
         let rows = table.len() as u64 / 24;
-        if record.hosted == 0 || record.count > rows || record.position > self.tail {
+        let past = (self.dir.len() / 16..64).any(|place| record.hosted >> place & 1 == 1);
+        if record.hosted == 0 || past || record.count > rows || record.position > self.tail {
             return 10;
         }
         let cells: Vec<u64> = table.chunks_exact(24).map(|row| get(row, 0, 8)).collect();
@@ -329,12 +344,13 @@ impl Judge {
         if counted.windows(2).any(|pair| pair[0] >= pair[1]) {
             return 10;
         }
-        if !(1..=8).contains(&object) || record.hosted >> (object - 1) & 1 == 0 {
+        let place = self.place(object);
+        if place.is_none_or(|place| record.hosted >> place & 1 == 0) {
             return 3;
         }
         let cells = cells_of(table, record.count, object);
         let good = |(key, held): (&u64, &[u64; 3])| {
-            is_cell(object, *key) && held[2] >= 1 && held[2] <= self.tail
+            self.is_cell(object, *key) && held[2] >= 1 && held[2] <= self.tail
         };
         if !cells.iter().all(good) {
             3
@@ -386,10 +402,10 @@ fn written(items: &[u8]) -> BTreeSet<u32> {
 fn a_plain_judge_says_the_same() {
     let mut judged = 0;
     for case in appending() {
-        if !check(&case.log, case.tail as usize).is_done() {
+        if !check(eight(), &case.log, case.tail as usize).is_done() {
             continue;
         }
-        let mut judge = Judge::of(&case.log, case.tail as usize);
+        let mut judge = Judge::of(eight(), &case.log, case.tail as usize);
         let answers = case.outcome().answers;
         for (request, answer) in case.requests.iter().zip(answers) {
             let expected = match (judge.ask(request), request) {
@@ -404,6 +420,48 @@ fn a_plain_judge_says_the_same() {
     assert!(judged >= 60, "{judged}");
 }
 
+/// The same over directories of all kinds, and with hosted sets that have a bit past the last record.
+#[test]
+fn a_plain_judge_says_the_same_over_any_directory() {
+    let mut met = [0; 17];
+    for seed in 0..400 {
+        let mut random = Random::new(seed ^ 0xD3);
+        let directory = directory(&mut random);
+        let dir = directory.bytes();
+        let mix = Mix::rough().over(&directory, &mut random, 8);
+        let mut judge = Judge::of(&dir, &vec![0; 40 * SLOT], 0);
+        let mut history = History::over(directory, seed, 40, mix);
+        let mut log = vec![0x5A; 40 * SLOT];
+        for _ in 0..60 {
+            let mut request = history.request();
+            if random.percent(12) {
+                let (directory, tail) = (&history.writer.directory, history.writer.tail);
+                broken(directory, &mut random, &mut request, tail);
+            }
+            if let Request::Checkpoint { record, .. } = &mut request {
+                if random.percent(5) {
+                    record.hosted |= 1 << random.below(64);
+                }
+            }
+            let tail = history.writer.tail;
+            let expected = match (judge.ask(&request), &request) {
+                (0, _) => Done(judge.tail as usize),
+                (16, Request::Commit { reads, .. }) => refused(16, judge.astray(reads)),
+                (number, _) => refused(number, None),
+            };
+            let answer = append::request(&dir, &mut log, tail, &request);
+            assert_eq!(answer, expected, "seed {seed}: {request:?}");
+            assert_eq!(history.append(request), answer);
+            assert!(history.writer.used() == &log[..history.writer.used().len()]);
+            met[answer.number() as usize] += 1;
+        }
+        assert_eq!(check(&dir, &log, history.writer.tail), Done(()));
+    }
+    for number in [0, 3, 4, 5, 6, 7, 8, 9, 10, 14, 16] {
+        assert!(met[number] > 10, "no {number}: {met:?}");
+    }
+}
+
 #[test]
 fn the_histories_are_as_wide_as_meant() {
     let cases = histories::cases();
@@ -412,7 +470,7 @@ fn the_histories_are_as_wide_as_meant() {
     for case in &cases {
         assert!((6..=16).contains(&(case.log.len() / SLOT)));
         assert!((10..=25).contains(&case.requests.len()));
-        assert_eq!(check(&case.log, case.tail as usize), Done(()));
+        assert_eq!(check(eight(), &case.log, case.tail as usize), Done(()));
         for (request, answer) in case.requests.iter().zip(case.outcome().answers) {
             let kind = request_bytes(request)[3];
             *seen.entry((kind, answer.number())).or_insert(0) += 1;
@@ -473,7 +531,7 @@ fn read_back(rest: &mut &[u8], case: &Case) {
             }
         } else if kind == 4 {
             let record = Record {
-                hosted: number(rest, 4) as u8,
+                hosted: number(rest, 4),
                 position: number(rest, 8),
                 count: number(rest, 8),
             };

@@ -3,9 +3,12 @@
 
 use std::collections::BTreeMap;
 
+use reference::audit::audit;
 use reference::auditing::{auditing, histories, named};
+use reference::directory::eight;
 use reference::log::check;
 use reference::playing::{input, output, record, Case, Request, Said};
+use reference::random::{damage, directory, History, Mix, Random};
 use reference::replica::{open_fresh, play};
 use reference::slot::{slot_at, Kind, COMMIT};
 use reference::table::{row, CELL};
@@ -69,7 +72,7 @@ impl<'a> Taker<'a> {
     fn request(&mut self) -> Request {
         match self.number(4) {
             1 => Request::Open {
-                hosted: u8::try_from(self.number(4)).unwrap(),
+                hosted: self.number(4),
             },
             2 => Request::Play {
                 tail: self.word(),
@@ -99,7 +102,7 @@ fn stdin_reads_back_within_its_bounds() {
         assert_eq!(taker.counted(), case.log);
         assert_eq!(taker.counted(), case.table);
         assert!(case.log.len() <= 4096 && case.table.len() <= 2400);
-        let hosted = u8::try_from(taker.number(4)).unwrap();
+        let hosted = taker.number(4);
         let given = record(hosted, taker.number(8), taker.number(8));
         assert_eq!(given, case.record);
         let requests: Vec<Request> = (0..taker.number(4)).map(|_| taker.request()).collect();
@@ -109,14 +112,15 @@ fn stdin_reads_back_within_its_bounds() {
 }
 
 /// A plain auditor: plays everything anew up to each entry that it judges.
-fn plainly(case: &Case, tail: usize, table: &[u8]) -> (u32, Option<u64>) {
-    if let Refused { number, told } = check(&case.log, tail) {
+fn plainly(dir: &[u8], log: &[u8], tail: usize, table: &[u8]) -> (u32, Option<u64>) {
+    if let Refused { number, told } = check(dir, log, tail) {
         return (number, told);
     }
-    let fresh = open_fresh(0xFF).done().unwrap();
+    let all = u64::MAX >> (64 - dir.len() / 16);
+    let fresh = open_fresh(dir, all).done().unwrap();
     let to = |stop: u64| {
         let mut scratch = table.to_vec();
-        let (answer, left) = play(&case.log, tail, fresh, &mut scratch, stop);
+        let (answer, left) = play(dir, log, tail, fresh, &mut scratch, stop);
         (answer, left, scratch)
     };
     let (answer, left, _) = to(tail as u64);
@@ -124,7 +128,7 @@ fn plainly(case: &Case, tail: usize, table: &[u8]) -> (u32, Option<u64>) {
         return (answer.number(), Some(left.position));
     }
     for at in 0..tail {
-        let slot = slot_at(&case.log, at);
+        let slot = slot_at(log, at);
         let fair = match slot.kind() {
             Some(Kind::Decision) => {
                 let verdict = slot.verdict();
@@ -135,7 +139,7 @@ fn plainly(case: &Case, tail: usize, table: &[u8]) -> (u32, Option<u64>) {
                     let found = rows.find(|row| (row.object, row.key) == (object, key));
                     found.map_or(0, |row| row.version)
                 };
-                let commit = slot_at(&case.log, verdict.commit as usize);
+                let commit = slot_at(log, verdict.commit as usize);
                 let mut reads = commit.reads();
                 let commits = reads.all(|read| version(read.object, read.key) == read.version);
                 (verdict.outcome == COMMIT) == commits
@@ -179,11 +183,60 @@ fn audits_find_what_a_plain_auditor_finds() {
     for case in auditing() {
         for (request, said) in case.requests.iter().zip(case.outcome().said) {
             if let (Request::Audit { tail }, Said::Audited(answer, _)) = (request, said) {
-                let found = plainly(&case, *tail as usize, &case.table);
+                let found = plainly(eight(), &case.log, *tail as usize, &case.table);
                 assert_eq!(told(answer), found, "{} {tail}", case.name);
             }
         }
     }
+}
+
+/// The same over directories of all kinds; the record hosts all of them.
+#[test]
+fn audits_over_any_directory_find_what_a_plain_auditor_finds() {
+    let mut found = [0; 16];
+    for seed in 0..500 {
+        let mut random = Random::new(seed ^ 0xD1);
+        let directory = directory(&mut random);
+        let mix = Mix::rough().over(&directory, &mut random, 8);
+        let mix = match seed % 3 {
+            0 => Mix { broken: 0, ..mix },
+            1 => mix.before(),
+            _ => mix,
+        };
+        let dir = directory.bytes();
+        let mut history = History::over(directory, seed, 30, mix);
+        for _ in 0..30 {
+            history.step();
+        }
+        let mut log = history.writer.log;
+        if random.percent(10) {
+            damage(&mut random, &mut log, history.writer.tail);
+        }
+        for _ in 0..3 {
+            let tail = random.below(history.writer.tail as u64 + 1) as usize;
+            let table = vec![0xEE; random.below(40 * CELL as u64) as usize];
+            let mut scratch = table.clone();
+            let (answer, left) = audit(&dir, &log, tail, &mut scratch);
+            assert_eq!(told(answer), plainly(&dir, &log, tail, &table));
+            let number = answer.number();
+            found[number as usize] += 1;
+            let all = u64::MAX >> (64 - dir.len() / 16);
+            assert_eq!(left.hosted, if number == 2 { 0 } else { all });
+            // What it leaves is what a play of all leaves.
+            if number != 2 {
+                let mut played = table.clone();
+                let fresh = open_fresh(&dir, all).done().unwrap();
+                let (_, due) = play(&dir, &log, tail, fresh, &mut played, tail as u64);
+                assert!(left == due && scratch == played, "seed {seed}");
+            } else {
+                assert_eq!(scratch, table);
+            }
+        }
+    }
+    assert!(
+        found[0] > 100 && found[2] > 20 && found[11] > 100 && found[13] > 100,
+        "{found:?}"
+    );
 }
 
 /// The random histories meet enough of everything.

@@ -1,5 +1,6 @@
 //! The forms that carry their state, beside the calls that carry none.
 
+use reference::directory::eight;
 use reference::forms::{logs, output, readers, runs};
 use reference::log::{list, Reader};
 use reference::replica::{play, play_in_place};
@@ -18,7 +19,7 @@ fn a_reader_gives_the_stream_list() {
         for object in 0..=9 {
             let tail = case.tail as usize;
             let mut lent = vec![0; 64];
-            let Answer::Done(count) = list(&case.log, tail, object, &mut lent) else {
+            let Answer::Done(count) = list(eight(), &case.log, tail, object, &mut lent) else {
                 continue;
             };
             let mut reader = Reader {
@@ -26,7 +27,7 @@ fn a_reader_gives_the_stream_list() {
                 next: 0,
             };
             let mut read = Vec::new();
-            while let Answer::Done(Some(at)) = reader.read(tail, object) {
+            while let Answer::Done(Some(at)) = reader.read(eight(), tail, object) {
                 read.push(at as u32);
             }
             assert_eq!(read, lent[..count], "{}", case.name);
@@ -44,8 +45,8 @@ fn in_place_is_by_value() {
             let (mut at, mut other) = (run.record, run.table.clone());
             for (tail, stop) in run.instalments {
                 let tail = tail as usize;
-                let answer = play_in_place(&case.log, tail, &mut moved, &mut table, stop);
-                let (said, left) = play(&case.log, tail, at, &mut other, stop);
+                let answer = play_in_place(eight(), &case.log, tail, &mut moved, &mut table, stop);
+                let (said, left) = play(eight(), &case.log, tail, at, &mut other, stop);
                 at = left;
                 assert_eq!(
                     (answer, moved, &table),

@@ -1,5 +1,6 @@
 //! How a header is read (4.5), and that reading it tells good from bad as the header rule does (4.1 to 4.3, 4.6).
 
+use reference::directory::eight;
 use reference::header::BackPointer::{self, At, Nothing, Past};
 use reference::header::{distance, reads_as_due, EarlierOffset, Header, Nearest, FARTHEST};
 use reference::log::{check, list};
@@ -318,8 +319,8 @@ fn an_entry_with_a_back_pointer_past_offset_0_is_bad() {
                     let header = Header { pointer, ..stored };
                     assert!(header.back_pointers(at).contains(&Past));
                     let log = with_header(log, at, place, header);
-                    assert_eq!(check(&log, tail), bad_at(at as u64));
-                    assert_eq!(check(&log, at), Answer::Done(()));
+                    assert_eq!(check(eight(), &log, tail), bad_at(at as u64));
+                    assert_eq!(check(eight(), &log, at), Answer::Done(()));
                 }
             }
         }
@@ -341,17 +342,17 @@ fn worked_headers_in_a_log_of_both_formats() {
         }
         let (log, tail) = (&writer.log, writer.tail);
         assert_eq!(slot_at(log, next).header(0), header(hex));
-        assert_eq!(check(log, tail), Answer::Done(()));
+        assert_eq!(check(eight(), log, tail), Answer::Done(()));
         let mut lent = [7; 4];
-        assert_eq!(list(log, tail, 2, &mut lent), Answer::Done(3));
+        assert_eq!(list(eight(), log, tail, 2, &mut lent), Answer::Done(3));
         assert_eq!(lent, [0, next as u32, next as u32 + 1, 7]);
         for offset in [1, next as u64, tail as u64, u64::MAX] {
             let wrong = Header::of(0x8000_0002, offset);
             let log = with_header(log, next, 0, wrong);
-            assert_eq!(check(&log, tail), bad_at(next as u64));
+            assert_eq!(check(eight(), &log, tail), bad_at(next as u64));
         }
         let near = Header::of(0x8000_0002, next as u64);
         let log = with_header(log, next + 1, 0, near);
-        assert_eq!(check(&log, tail), bad_at(next as u64 + 1));
+        assert_eq!(check(eight(), &log, tail), bad_at(next as u64 + 1));
     }
 }

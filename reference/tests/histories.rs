@@ -2,9 +2,10 @@
 
 use reference::append::{self, Request};
 use reference::audit::audit;
+use reference::directory::{eight, Directory};
 use reference::log::{check, entry, header, items, list, next, owed, stretch};
-use reference::objects::{has, set_of, OBJECTS};
-use reference::random::{edge, flip, junk, History, Mix, Random};
+use reference::objects::set_of;
+use reference::random::{directory, edge, faulty_directory, flip, junk, History, Mix, Random};
 use reference::replica::{open_at, open_fresh, play, read_cell, Record};
 use reference::run::Run;
 use reference::sample::{put, read};
@@ -26,31 +27,33 @@ fn runs(history: &History) -> Vec<Run> {
 }
 
 /// At position p the replica's cells are what the run had at count p, and its count is how many were written.
-fn shows(record: &Record, table: &[u8], states: &[Run], keys: u32) {
+fn shows(directory: &Directory, record: &Record, table: &[u8], states: &[Run], keys: u32) {
+    let dir = directory.bytes();
     let run = &states[record.position as usize];
-    assert_eq!(record.count, run.written_of(record.hosted));
-    for object in OBJECTS
-        .iter()
-        .filter(|object| has(record.hosted, object.id))
-    {
-        for key in 0..keys.min(object.highest_key + 1) {
-            let shown = read_cell(record, table, object.id, key);
-            assert_eq!(shown, Answer::Done(run.cell(object.id, key)));
+    assert_eq!(record.count, run.written_of(directory, record.hosted));
+    for object in directory.objects_of(record.hosted) {
+        for near in 0..keys.min(object.highest_key + 1) {
+            for key in [near, object.highest_key - near] {
+                let shown = read_cell(&dir, record, table, object.id, key);
+                assert_eq!(shown, Answer::Done(run.cell(object.id, key)));
+            }
         }
     }
 }
 
 /// A replica waits exactly at a commit record of its objects whose reads it does not all host and whose decision is
 /// not below the tail.
-fn must_wait(log: &[u8], tail: usize, hosted: u8, at: usize) -> bool {
+fn must_wait(directory: &Directory, log: &[u8], tail: usize, hosted: u64, at: usize) -> bool {
     let slot = slot_at(log, at);
     let decided = (0..tail).any(|later| {
         let other = slot_at(log, later);
         other.kind() == Some(Kind::Decision) && other.verdict().commit == at as u64
     });
     slot.kind() == Some(Kind::Commit)
-        && slot.objects() & hosted != 0
-        && slot.reads().any(|read| !has(hosted, read.object))
+        && slot
+            .headers()
+            .any(|header| directory.has(hosted, header.object))
+        && slot.reads().any(|read| !directory.has(hosted, read.object))
         && !decided
 }
 
@@ -63,6 +66,8 @@ struct Counts {
 
 fn play_at_random(history: &History, random: &mut Random, counts: &mut Counts) {
     let (log, tail) = (&history.writer.log, history.writer.tail);
+    let directory = &history.writer.directory;
+    let dir = directory.bytes();
     let states = runs(history);
     let mut table = vec![0xAA; random.below(30) as usize * CELL + 5];
     let first_tail = random.below(tail as u64 + 1) as usize;
@@ -72,20 +77,20 @@ fn play_at_random(history: &History, random: &mut Random, counts: &mut Counts) {
             .map(|at| at as u64)
             .collect();
         let offset = random.pick(&checkpoints).unwrap_or(u64::MAX);
-        open_at(log, first_tail, offset, &mut table)
+        open_at(&dir, log, first_tail, offset, &mut table)
     } else {
-        open_fresh(random.number() as u8)
+        open_fresh(&dir, random.number() & directory.everything())
     };
     let Answer::Done(mut record) = opened else {
         return;
     };
     counts.opened += 1;
-    shows(&record, &table, &states, history.mix.keys);
+    shows(directory, &record, &table, &states, history.mix.keys);
     for _ in 0..6 {
         let seen_tail = random.below(tail as u64 + 1) as usize;
         let stop = random.below(tail as u64 + 2);
         let before = (record, table.clone());
-        let (answer, after) = play(log, seen_tail, record, &mut table, stop);
+        let (answer, after) = play(&dir, log, seen_tail, record, &mut table, stop);
         counts.plays += 1;
         match answer.number() {
             0 => assert_eq!(after.position, stop),
@@ -93,17 +98,23 @@ fn play_at_random(history: &History, random: &mut Random, counts: &mut Counts) {
                 counts.waits += 1;
                 let at = after.position as usize;
                 assert!(after.position < stop);
-                assert!(must_wait(log, seen_tail, record.hosted, at));
+                assert!(must_wait(directory, log, seen_tail, record.hosted, at));
             }
             13 => counts.no_room += 1,
             _ => assert_eq!((after, &table), (before.0, &before.1)),
         }
         // It passed no entry at which it had to wait.
         for at in before.0.position..after.position {
-            assert!(!must_wait(log, seen_tail, record.hosted, at as usize));
+            assert!(!must_wait(
+                directory,
+                log,
+                seen_tail,
+                record.hosted,
+                at as usize
+            ));
         }
         record = after;
-        shows(&record, &table, &states, history.mix.keys);
+        shows(directory, &record, &table, &states, history.mix.keys);
     }
 }
 
@@ -123,7 +134,7 @@ fn replicas_of_audited_logs_show_the_run() {
         };
         let history = History::made(seed, 40, 50, Mix { broken: 10, ..mix });
         let (log, tail) = (&history.writer.log, history.writer.tail);
-        let (answer, record) = audit(log, tail, &mut vec![0; 100 * CELL]);
+        let (answer, record) = audit(eight(), log, tail, &mut vec![0; 100 * CELL]);
         // A broken checkpoint may be a false one.
         if !answer.is_done() {
             continue;
@@ -136,6 +147,44 @@ fn replicas_of_audited_logs_show_the_run() {
     }
     assert!(counts.opened > 1000 && counts.plays > 5000, "too few");
     assert!(counts.waits > 100 && counts.no_room > 100, "too few");
+}
+
+/// The same over directories of all kinds.
+#[test]
+fn replicas_over_any_directory_show_the_run() {
+    let mut counts = Counts {
+        waits: 0,
+        no_room: 0,
+        opened: 0,
+        plays: 0,
+    };
+    let mut wide = 0;
+    for seed in 0..500 {
+        let mut random = Random::new(seed ^ 0xD4);
+        let directory = directory(&mut random);
+        let mix = match seed % 3 {
+            0 => Mix::true_records().before(),
+            _ => Mix::true_records(),
+        };
+        let mix = mix.over(&directory, &mut random, 8);
+        let mut history = History::over(directory, seed, 40, mix);
+        for _ in 0..50 {
+            history.step();
+        }
+        let (log, tail) = (&history.writer.log, history.writer.tail);
+        let dir = history.writer.directory.bytes();
+        let (answer, record) = audit(&dir, log, tail, &mut vec![0; 100 * CELL]);
+        assert!(answer.is_done(), "seed {seed}: {answer:?}");
+        let all = history.writer.directory.everything();
+        assert_eq!((record.hosted, record.position), (all, tail as u64));
+        wide += u32::from(all == u64::MAX);
+        for _ in 0..6 {
+            play_at_random(&history, &mut random, &mut counts);
+        }
+    }
+    assert!(counts.opened > 1000 && counts.plays > 5000, "too few");
+    assert!(counts.waits > 100 && counts.no_room > 100, "too few");
+    assert!(wide > 30, "too few directories of 64");
 }
 
 #[test]
@@ -157,7 +206,7 @@ fn histories_have_all_kinds_and_refusals() {
         for at in 0..tail {
             kinds[slot_at(log, at).kind().map_or(0, |kind| kind as usize)] += 1;
         }
-        let (answer, _) = audit(log, tail, &mut vec![0; 100 * CELL]);
+        let (answer, _) = audit(eight(), log, tail, &mut vec![0; 100 * CELL]);
         audits[answer.number() as usize] += 1;
     }
     for number in [0, 3, 4, 5, 6, 7, 8, 9, 10, 13, 14, 16] {
@@ -228,10 +277,10 @@ fn shown_versions_are_never_astray() {
         let (log, tail) = (&history.writer.log, history.writer.tail);
         for position in 0..=tail {
             let mut table = vec![0; 40 * CELL];
-            let fresh = open_fresh(0xFF).done().unwrap();
-            let (_, shown) = play(log, tail, fresh, &mut table, position as u64);
+            let fresh = open_fresh(eight(), 0xFF).done().unwrap();
+            let (_, shown) = play(eight(), log, tail, fresh, &mut table, position as u64);
             for object in 1..=8 {
-                let Answer::Done(cell) = read_cell(&shown, &table, object, 0) else {
+                let Answer::Done(cell) = read_cell(eight(), &shown, &table, object, 0) else {
                     panic!("object {object} is hosted");
                 };
                 // A new transaction's commit, over a log with room for it.
@@ -239,10 +288,10 @@ fn shown_versions_are_never_astray() {
                 after.resize((tail + 2) * SLOT, 0);
                 let number = 0xFFFF_0000;
                 let items = put(1, 0, 1).bytes();
-                let answer = append::update(&mut after, tail, number, &items);
+                let answer = append::update(eight(), &mut after, tail, number, &items);
                 assert_eq!(answer, Answer::Done(tail + 1));
                 let reads = read(object, 0, cell.version()).bytes();
-                let answer = append::commit(&mut after, tail + 1, number, &reads);
+                let answer = append::commit(eight(), &mut after, tail + 1, number, &reads);
                 assert_eq!(answer, Answer::Done(tail + 2));
                 asked += u32::from(cell.version() > 0);
             }
@@ -252,7 +301,7 @@ fn shown_versions_are_never_astray() {
 }
 
 /// Every call on a log of any bytes, with numbers of any kind. Refused appends, openings and lists change nothing.
-fn call_everything(log: &[u8], random: &mut Random) {
+fn call_everything(dir: &[u8], log: &[u8], random: &mut Random) {
     let slots = (log.len() / SLOT) as u64;
     let tail = if random.percent(70) {
         random.below(slots + 1) as usize
@@ -261,26 +310,26 @@ fn call_everything(log: &[u8], random: &mut Random) {
     };
     let (offset, other) = (edge(random), edge(random));
     let (small, word) = (random.below(10) as u32, other as u32);
-    check(log, tail);
-    owed(log, tail);
+    check(dir, log, tail);
+    owed(dir, log, tail);
     for offset in [offset, random.below(slots + 2)] {
-        let whole = entry(log, tail, offset);
-        assert_eq!(whole.number(), stretch(log, tail, offset).number());
-        assert!(whole.is_done() || items(log, tail, offset).is_empty());
-        header(log, tail, offset, small);
-        header(log, tail, offset, word);
+        let whole = entry(dir, log, tail, offset);
+        assert_eq!(whole.number(), stretch(dir, log, tail, offset).number());
+        assert!(whole.is_done() || items(dir, log, tail, offset).is_empty());
+        header(dir, log, tail, offset, small);
+        header(dir, log, tail, offset, word);
         for object in [small, word] {
-            let (answer, reader) = next(log, tail, object, offset);
+            let (answer, reader) = next(dir, log, tail, object, offset);
             assert!(answer.is_done() || reader == offset);
         }
     }
     let mut lent = [7; 3];
-    if !list(log, tail, small, &mut lent).is_done() {
+    if !list(dir, log, tail, small, &mut lent).is_done() {
         assert_eq!(lent, [7; 3]);
     }
     let mut table = junk(random, 100);
     let record = Record {
-        hosted: random.number() as u8,
+        hosted: any_set(random),
         position: if random.percent(50) {
             offset
         } else {
@@ -292,7 +341,7 @@ fn call_everything(log: &[u8], random: &mut Random) {
             random.below(4)
         },
     };
-    read_cell(&record, &table, small, word);
+    read_cell(dir, &record, &table, small, word);
     let requests = [
         Request::Update {
             number: word,
@@ -314,19 +363,19 @@ fn call_everything(log: &[u8], random: &mut Random) {
     ];
     for request in &requests {
         let mut after = log.to_vec();
-        if !append::request(&mut after, tail, request).is_done() {
+        if !append::request(dir, &mut after, tail, request).is_done() {
             assert_eq!(after, log);
         }
     }
     let before = table.clone();
-    if !open_at(log, tail, offset, &mut table).is_done() {
+    if !open_at(dir, log, tail, offset, &mut table).is_done() {
         assert_eq!(table, before);
     }
-    let (answer, left) = play(log, tail, record, &mut table, random.below(slots + 1));
+    let (answer, left) = play(dir, log, tail, record, &mut table, random.below(slots + 1));
     assert!(
         left.hosted == record.hosted && (answer.is_done() || left.count <= record.count.max(4))
     );
-    audit(log, tail, &mut table);
+    audit(dir, log, tail, &mut table);
 }
 
 #[test]
@@ -346,7 +395,41 @@ fn any_bytes_and_numbers_end_in_an_answer() {
         if random.percent(10) {
             log.pop();
         }
-        call_everything(&log, &mut random);
+        call_everything(eight(), &log, &mut random);
     }
     assert_eq!(set_of(u32::MAX), 0);
+}
+
+/// Few bits, all of eight, or any.
+fn any_set(random: &mut Random) -> u64 {
+    match random.below(4) {
+        0 => 1 << random.below(64),
+        1 => random.number(),
+        _ => random.number() & 0xFF,
+    }
+}
+
+/// The same with directories of all kinds, faulty ones and ones of other logs.
+#[test]
+fn any_directory_ends_in_an_answer() {
+    let mut random = Random::new(6);
+    for seed in 0..3000 {
+        let own = directory(&mut random);
+        let mut dir = own.bytes();
+        let slots = random.below(9) as usize;
+        let mix = Mix::rough().over(&own, &mut random, 5);
+        let mut history = History::over(own, seed, slots, mix);
+        for _ in 0..12 {
+            history.step();
+        }
+        let mut log = history.writer.log;
+        match random.below(6) {
+            0 => dir = faulty_directory(&mut random),
+            1 => dir = directory(&mut random).bytes(),
+            2 => flip(&mut random, &mut dir),
+            3 => flip(&mut random, &mut log),
+            _ => {}
+        }
+        call_everything(&dir, &log, &mut random);
+    }
 }

@@ -3,10 +3,11 @@
 
 use std::collections::BTreeMap;
 
+use reference::directory::{eight, the_eight, Directory};
 use reference::log::check;
-use reference::objects::has;
 use reference::playing::{histories, input, named, output, playing, record, Case, Request, Said};
-use reference::replica::Record;
+use reference::random::{directory, History, Mix, Random};
+use reference::replica::{play, Record};
 use reference::slot::{slot_at, Kind, Write, COMMIT, PUT};
 use reference::table::{capacity, row, Row, CELL};
 use reference::Answer::{Done, Refused};
@@ -91,7 +92,7 @@ impl<'a> Taker<'a> {
     fn request(&mut self) -> Request {
         match self.number(4) {
             1 => Request::Open {
-                hosted: u8::try_from(self.number(4)).unwrap(),
+                hosted: self.number(4),
             },
             2 => Request::Play {
                 tail: self.number(4) as u32,
@@ -117,7 +118,7 @@ fn stdin_reads_back_within_its_bounds() {
         assert_eq!(taker.counted(), case.log);
         assert_eq!(taker.counted(), case.table);
         assert!(case.log.len() <= 4096 && case.table.len() <= 2400);
-        let hosted = u8::try_from(taker.number(4)).unwrap();
+        let hosted = taker.number(4);
         let given = record(hosted, taker.number(8), taker.number(8));
         assert_eq!(given, case.record);
         let requests: Vec<Request> = (0..taker.number(4)).map(|_| taker.request()).collect();
@@ -129,13 +130,20 @@ fn stdin_reads_back_within_its_bounds() {
 }
 
 /// A plain player: searches the rows for each cell, and works on a copy of them for each entry.
-fn plainly(case: &Case, tail: usize, given: Record, table: &mut [u8], stop: u64) -> (u32, Record) {
+fn plainly(
+    (directory, log): (&Directory, &[u8]),
+    tail: usize,
+    given: Record,
+    table: &mut [u8],
+    stop: u64,
+) -> (u32, Record) {
     let mut left = given;
-    if let Refused { number, .. } = check(&case.log, tail) {
+    if let Refused { number, .. } = check(&directory.bytes(), log, tail) {
         return (number, left);
     }
     let room = capacity(table);
-    if given.hosted == 0 || given.count > room as u64 || given.position > tail as u64 {
+    let past = (directory.objects().len()..64).any(|place| given.hosted >> place & 1 == 1);
+    if given.hosted == 0 || past || given.count > room as u64 || given.position > tail as u64 {
         return (10, left);
     }
     let mut rows: Vec<Row> = (0..given.count as usize).map(|at| row(table, at)).collect();
@@ -147,14 +155,14 @@ fn plainly(case: &Case, tail: usize, given: Record, table: &mut [u8], stop: u64)
     }
     let mut number = 0;
     for at in given.position as usize..stop as usize {
-        let Some(writes) = due(case, tail, given.hosted, at, &rows) else {
+        let Some(writes) = due((directory, log), tail, given.hosted, at, &rows) else {
             number = 12;
             break;
         };
         let mut after = rows.clone();
         for write in writes
             .iter()
-            .filter(|write| has(given.hosted, write.object))
+            .filter(|write| directory.has(given.hosted, write.object))
         {
             let value = (write.operation == PUT).then_some(write.value);
             let made = Row::of(write.object, write.key, value, at as u64 + 1);
@@ -188,29 +196,36 @@ fn place(rows: &[Row], object: u32, key: u32) -> Option<usize> {
 }
 
 /// The writes that are due at an entry; none where it waits.
-fn due(case: &Case, tail: usize, hosted: u8, at: usize, rows: &[Row]) -> Option<Vec<Write>> {
-    let slot = slot_at(&case.log, at);
+fn due(
+    (directory, log): (&Directory, &[u8]),
+    tail: usize,
+    hosted: u64,
+    at: usize,
+    rows: &[Row],
+) -> Option<Vec<Write>> {
+    let slot = slot_at(log, at);
     let number = slot.number();
     if slot.kind() == Some(Kind::Update) && number == 0 {
         return Some(slot.writes().collect());
     }
-    if slot.kind() != Some(Kind::Commit) || !slot.headers().any(|h| has(hosted, h.object)) {
+    if slot.kind() != Some(Kind::Commit) || !slot.headers().any(|h| directory.has(hosted, h.object))
+    {
         return Some(Vec::new());
     }
-    let commits = if slot.reads().all(|read| has(hosted, read.object)) {
+    let commits = if slot.reads().all(|read| directory.has(hosted, read.object)) {
         slot.reads().all(|read| {
             let version = place(rows, read.object, read.key).map_or(0, |at| rows[at].version);
             version == read.version
         })
     } else {
         let decided = (0..tail)
-            .map(|at| slot_at(&case.log, at))
+            .map(|at| slot_at(log, at))
             .filter(|slot| slot.kind() == Some(Kind::Decision))
             .find(|slot| slot.verdict().commit == at as u64)?;
         decided.verdict().outcome == COMMIT
     };
     let updates = (0..at)
-        .map(|at| slot_at(&case.log, at))
+        .map(|at| slot_at(log, at))
         .filter(|slot| slot.kind() == Some(Kind::Update) && slot.number() == number);
     Some(if commits {
         updates.flat_map(|slot| slot.writes()).collect()
@@ -232,7 +247,13 @@ fn all_cases_are_as_a_plain_player_says() {
                     assert!(!answer.is_done() || at == record(hosted, 0, 0));
                 }
                 (Request::Play { tail, stop }, Said::Played(answer, left)) => {
-                    let (number, plain) = plainly(&case, tail as usize, at, &mut table, stop);
+                    let (number, plain) = plainly(
+                        (the_eight(), &case.log),
+                        tail as usize,
+                        at,
+                        &mut table,
+                        stop,
+                    );
                     assert_eq!((answer.number(), left), (number, plain), "{}", case.name);
                     at = left;
                 }
@@ -247,6 +268,56 @@ fn all_cases_are_as_a_plain_player_says() {
             }
         }
         assert_eq!(outcome.table, table, "{}", case.name);
+    }
+}
+
+/// Plays in instalments over directories of all kinds, of any hosted set, a bit past the last record among them.
+#[test]
+fn plays_over_any_directory_are_as_a_plain_player_says() {
+    let mut numbers = [0; 16];
+    for seed in 0..400 {
+        let mut random = Random::new(seed ^ 0xD2);
+        let directory = directory(&mut random);
+        let mix = Mix::rough().over(&directory, &mut random, 6);
+        let dir = directory.bytes();
+        let mut history = History::over(directory.clone(), seed, 40, mix);
+        for _ in 0..45 {
+            history.step();
+        }
+        let (log, tail) = (&history.writer.log, history.writer.tail);
+        for _ in 0..4 {
+            let hosted = match random.below(8) {
+                0 => random.number(),
+                1..=3 => directory.everything(),
+                _ => {
+                    mix.objects & random.number()
+                        | directory.everything() & random.number() & random.number()
+                }
+            };
+            let mut at = record(hosted, 0, 0);
+            let mut table = vec![0xAA; random.below(30 * CELL as u64) as usize];
+            let mut plain = table.clone();
+            for _ in 0..4 {
+                let left = tail as u64 - at.position;
+                let seen = match random.below(8) {
+                    0 => random.below(tail as u64 + 1),
+                    _ => at.position + random.below(left + 1),
+                };
+                let stop = match random.below(8) {
+                    0 => random.below(tail as u64 + 2),
+                    _ => seen,
+                };
+                let (answer, left) = play(&dir, log, seen as usize, at, &mut table, stop);
+                let due = plainly((&directory, log), seen as usize, at, &mut plain, stop);
+                assert_eq!((answer.number(), left), due, "seed {seed}");
+                assert!(table == plain, "seed {seed}");
+                numbers[answer.number() as usize] += 1;
+                at = left;
+            }
+        }
+    }
+    for number in [0, 3, 10, 12, 13] {
+        assert!(numbers[number] > 40, "{numbers:?}");
     }
 }
 
@@ -266,7 +337,7 @@ fn the_histories_are_rich() {
         let entries = (0..case.log.len() / 256).filter_map(|at| slot_at(&case.log, at).kind());
         let entries: Vec<Kind> = entries.collect();
         assert!((8..=16).contains(&entries.len()));
-        assert_eq!(check(&case.log, entries.len()), Done(()));
+        assert_eq!(check(eight(), &case.log, entries.len()), Done(()));
         for kind in entries {
             *kinds.entry(kind as u32).or_insert(0) += 1;
         }

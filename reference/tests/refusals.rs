@@ -3,6 +3,7 @@
 use reference::append;
 use reference::append::Request;
 use reference::audit::audit;
+use reference::directory::eight;
 use reference::log::{check, entry, header, items, list, next, owed, stretch};
 use reference::replica::{open_at, open_fresh, play, read_cell, Record};
 use reference::sample::*;
@@ -21,7 +22,7 @@ fn refused_at<T>(number: u32, offset: u64) -> Answer<T> {
     }
 }
 
-fn record(hosted: u8, position: u64, count: u64) -> Record {
+fn record(hosted: u64, position: u64, count: u64) -> Record {
     Record {
         hosted,
         position,
@@ -47,7 +48,7 @@ fn damaged(log: &[u8], at: usize) -> Vec<u8> {
 fn appends(log: &[u8], tail: usize, request: &Request, expected: Answer<usize>) {
     let mut after = log.to_vec();
     assert_eq!(
-        append::request(&mut after, tail, request),
+        append::request(eight(), &mut after, tail, request),
         expected,
         "{request:?}"
     );
@@ -56,7 +57,7 @@ fn appends(log: &[u8], tail: usize, request: &Request, expected: Answer<usize>) 
             let free = (tail + 1) * SLOT;
             assert_eq!(after[..tail * SLOT], log[..tail * SLOT]);
             assert_eq!(after[free..], log[free..]);
-            assert_eq!(check(&after, tail + 1), Done(()));
+            assert_eq!(check(eight(), &after, tail + 1), Done(()));
         }
         _ => assert_eq!(after, log),
     }
@@ -312,13 +313,13 @@ fn a_checkpoint_reads_back_in_key_order() {
         Row::of(5, 1, Some(9), 1),
     ];
     let request = checkpoint_of(2, 1, &rows);
-    assert_eq!(append::request(&mut log, 1, &request), Done(2));
+    assert_eq!(append::request(eight(), &mut log, 1, &request), Done(2));
     let expected = [
         0, 0, 0, 3, 0, 0, 0, 2, 0, 0, 0, 0, 0, 0, 0, 1, //
         0, 0, 0, 7, 0, 0, 0, 1, 0, 0, 0, 0, 0, 0, 0, 1,
     ];
-    assert_eq!(items(&log, 2, 1), expected);
-    assert_eq!(stretch(&log, 2, 1).done().unwrap().from, 256 + 56);
+    assert_eq!(items(eight(), &log, 2, 1), expected);
+    assert_eq!(stretch(eight(), &log, 2, 1).done().unwrap().from, 256 + 56);
 }
 
 #[test]
@@ -332,7 +333,7 @@ fn play_order() {
     let broken = damaged(&log, 1);
     let plays = |log: &[u8], tail, given: Record, cells: usize, stop| {
         let mut table = vec![0xAA; cells * CELL];
-        let (answer, left) = play(log, tail, given, &mut table, stop);
+        let (answer, left) = play(eight(), log, tail, given, &mut table, stop);
         (answer, left)
     };
     let bad = record(0, 9, 9);
@@ -377,7 +378,7 @@ fn opening_order() {
     let broken = damaged(&log, 0);
     let opens = |log: &[u8], tail, offset| {
         let mut table = [0xAA; 23];
-        let answer = open_at(log, tail, offset, &mut table);
+        let answer = open_at(eight(), log, tail, offset, &mut table);
         assert_eq!(table, [0xAA; 23]);
         answer
     };
@@ -388,15 +389,18 @@ fn opening_order() {
     assert_eq!(opens(&log, 2, 0), refused(3));
     assert_eq!(opens(&log, 1, 1), refused(3));
     assert_eq!(opens(&log, 2, 1), refused(13));
-    assert_eq!(open_at(&log, 2, 1, &mut [0; 24]), Done(record(2, 2, 1)));
-    assert_eq!(open_fresh(0), refused(10));
-    assert_eq!(open_fresh(0x80), Done(record(0x80, 0, 0)));
+    assert_eq!(
+        open_at(eight(), &log, 2, 1, &mut [0; 24]),
+        Done(record(2, 2, 1))
+    );
+    assert_eq!(open_fresh(eight(), 0), refused(10));
+    assert_eq!(open_fresh(eight(), 0x80), Done(record(0x80, 0, 0)));
 }
 
 #[test]
 fn cell_reading_order() {
     let table = table_of(&[Row::of(2, 7, Some(1), 1), Row::of(3, 7, None, 0)]);
-    let reads = |given, object, key| read_cell(&given, &table, object, key);
+    let reads = |given, object, key| read_cell(eight(), &given, &table, object, key);
     for bad in [record(0, 0, 0), record(2, 0, 3), record(2, 0, u64::MAX)] {
         assert_eq!(reads(bad, 9, 9), refused(10));
     }
@@ -422,8 +426,14 @@ fn cell_reading_order() {
     assert_eq!(reads(record(2, 0, 0), 2, 7), Done(Cell::NeverWritten));
     // Rows that descend: 10 before 3, up to the count alone.
     let table = table_of(&[Row::of(3, 7, Some(1), 1), Row::of(2, 7, Some(1), 1)]);
-    assert_eq!(read_cell(&record(2, 0, 2), &table, 9, 9), refused(10));
-    assert_eq!(read_cell(&record(2, 0, 1), &table, 9, 9), refused(3));
+    assert_eq!(
+        read_cell(eight(), &record(2, 0, 2), &table, 9, 9),
+        refused(10)
+    );
+    assert_eq!(
+        read_cell(eight(), &record(2, 0, 1), &table, 9, 9),
+        refused(3)
+    );
 }
 
 #[test]
@@ -435,35 +445,41 @@ fn reading_order() {
         (&broken[..1279], 4, refused(1)),
         (&broken[..], 5, refused_at(2, 3)),
     ] {
-        assert_eq!(check(bytes, tail), refusal);
-        assert_eq!(owed(bytes, tail).number(), refusal.number());
-        assert_eq!(entry(bytes, tail, 9).number(), refusal.number());
-        assert_eq!(header(bytes, tail, 0, 9).number(), refusal.number());
-        assert_eq!(items(bytes, tail, 0), []);
-        assert_eq!(stretch(bytes, tail, 9).number(), refusal.number());
-        let (answer, reader) = next(bytes, tail, 9, 99);
+        assert_eq!(check(eight(), bytes, tail), refusal);
+        assert_eq!(owed(eight(), bytes, tail).number(), refusal.number());
+        assert_eq!(entry(eight(), bytes, tail, 9).number(), refusal.number());
+        assert_eq!(
+            header(eight(), bytes, tail, 0, 9).number(),
+            refusal.number()
+        );
+        assert_eq!(items(eight(), bytes, tail, 0), []);
+        assert_eq!(stretch(eight(), bytes, tail, 9).number(), refusal.number());
+        let (answer, reader) = next(eight(), bytes, tail, 9, 99);
         assert_eq!((answer.number(), reader), (refusal.number(), 99));
-        assert_eq!(list(bytes, tail, 9, &mut []).number(), refusal.number());
+        assert_eq!(
+            list(eight(), bytes, tail, 9, &mut []).number(),
+            refusal.number()
+        );
     }
     // An entry below the tail is judged also above the offset asked for; nothing above the tail is.
-    assert_eq!(entry(&broken, 4, 0).number(), 2);
-    assert_eq!(entry(&broken, 3, 0).number(), 0);
+    assert_eq!(entry(eight(), &broken, 4, 0).number(), 2);
+    assert_eq!(entry(eight(), &broken, 3, 0).number(), 0);
     for offset in [5, 6, u64::MAX] {
-        assert_eq!(entry(&log, 5, offset), refused(3));
-        assert_eq!(header(&log, 5, offset, 0), refused(3));
-        assert_eq!(items(&log, 5, offset), []);
-        assert_eq!(stretch(&log, 5, offset), refused(3));
+        assert_eq!(entry(eight(), &log, 5, offset), refused(3));
+        assert_eq!(header(eight(), &log, 5, offset, 0), refused(3));
+        assert_eq!(items(eight(), &log, 5, offset), []);
+        assert_eq!(stretch(eight(), &log, 5, offset), refused(3));
     }
-    assert_eq!(header(&log, 5, 0, 1), refused(3));
-    assert_eq!(header(&log, 5, 0, u32::MAX), refused(3));
+    assert_eq!(header(eight(), &log, 5, 0, 1), refused(3));
+    assert_eq!(header(eight(), &log, 5, 0, u32::MAX), refused(3));
     for (object, from) in [(0, 0), (9, 0), (2, 6), (2, u64::MAX), (u32::MAX, 0)] {
-        assert_eq!(next(&log, 5, object, from), (refused(3), from));
+        assert_eq!(next(eight(), &log, 5, object, from), (refused(3), from));
     }
     let mut lent = [7; 4];
-    assert_eq!(list(&log, 5, 9, &mut []), refused(3));
-    assert_eq!(list(&log, 5, 2, &mut lent), refused(13));
+    assert_eq!(list(eight(), &log, 5, 9, &mut []), refused(3));
+    assert_eq!(list(eight(), &log, 5, 2, &mut lent), refused(13));
     assert_eq!(lent, [7; 4]);
-    assert_eq!(list(&log, 5, 3, &mut []), Done(0));
+    assert_eq!(list(eight(), &log, 5, 3, &mut []), Done(0));
 }
 
 #[test]
@@ -477,33 +493,36 @@ fn audit_order() {
     let broken = damaged(&log, 2);
     let mut scratch = [0xAA; 24];
     let none = record(0, 0, 0);
-    assert_eq!(audit(&broken, 5, &mut scratch), (refused(1), none));
-    assert_eq!(audit(&broken, 4, &mut scratch), (refused_at(2, 2), none));
+    assert_eq!(audit(eight(), &broken, 5, &mut scratch), (refused(1), none));
+    assert_eq!(
+        audit(eight(), &broken, 4, &mut scratch),
+        (refused_at(2, 2), none)
+    );
     assert_eq!(scratch, [0xAA; 24]);
-    let (answer, left) = audit(&log, 4, &mut scratch);
+    let (answer, left) = audit(eight(), &log, 4, &mut scratch);
     assert_eq!((answer, left), (refused_at(13, 3), record(0xFF, 3, 1)));
-    let (answer, left) = audit(&log, 4, &mut [0; 48]);
+    let (answer, left) = audit(eight(), &log, 4, &mut [0; 48]);
     assert_eq!((answer, left), (refused_at(11, 2), record(0xFF, 4, 2)));
 }
 
 #[test]
 fn the_most_slots() {
     let log = vec![0; 131_073 * SLOT];
-    assert_eq!(check(&log, 0), refused(1));
-    assert_eq!(check(&log[SLOT..], 0), Done(()));
-    assert_eq!(check(&log[SLOT..], 1), refused_at(2, 0));
-    assert_eq!(check(&log[SLOT..], 131_072), refused_at(2, 0));
-    assert_eq!(check(&log[SLOT..], 131_073), refused(1));
-    assert_eq!(check(&[], usize::MAX), refused(1));
+    assert_eq!(check(eight(), &log, 0), refused(1));
+    assert_eq!(check(eight(), &log[SLOT..], 0), Done(()));
+    assert_eq!(check(eight(), &log[SLOT..], 1), refused_at(2, 0));
+    assert_eq!(check(eight(), &log[SLOT..], 131_072), refused_at(2, 0));
+    assert_eq!(check(eight(), &log[SLOT..], 131_073), refused(1));
+    assert_eq!(check(eight(), &[], usize::MAX), refused(1));
     let mut empty = Vec::new();
     assert_eq!(
-        append::update(&mut empty, 0, 0, &put(2, 1, 1).bytes()),
+        append::update(eight(), &mut empty, 0, 0, &put(2, 1, 1).bytes()),
         refused(9)
     );
-    assert_eq!(append::commit(&mut empty, 0, 1, &[]), refused(6));
-    assert_eq!(append::decision(&mut empty, 0, 0, 1), refused(3));
+    assert_eq!(append::commit(eight(), &mut empty, 0, 1, &[]), refused(6));
+    assert_eq!(append::decision(eight(), &mut empty, 0, 0, 1), refused(3));
     assert_eq!(
-        append::checkpoint(&mut empty, 0, &record(1, 0, 0), &[], 1),
+        append::checkpoint(eight(), &mut empty, 0, &record(1, 0, 0), &[], 1),
         refused(9)
     );
 }

@@ -5,6 +5,7 @@ use reference::audit::audit;
 use reference::auditing::auditing;
 use reference::broken::broken;
 use reference::cases::{frames, good, reading, Case, Expected};
+use reference::directory::eight;
 use reference::log::{check, list, scan};
 use reference::playing::playing;
 use reference::random::{History, Mix};
@@ -13,7 +14,7 @@ use reference::table::CELL;
 use reference::Answer;
 
 fn found(case: &Case) -> Expected {
-    match check(&case.log, case.tail as usize) {
+    match check(eight(), &case.log, case.tail as usize) {
         Answer::Done(()) => Expected::Good,
         Answer::Refused {
             number: 1,
@@ -44,7 +45,7 @@ fn appended_again(log: &[u8], tail: usize) -> [u32; 2] {
         let entry = slot_at(log, at);
         let mut again = log.to_vec();
         again[at * SLOT..].fill(0x33);
-        match append::commit(&mut again, at, entry.number(), entry.items()) {
+        match append::commit(eight(), &mut again, at, entry.number(), entry.items()) {
             Answer::Done(after) => {
                 assert_eq!(again[..after * SLOT], log[..after * SLOT]);
                 counts[0] += 1;
@@ -74,7 +75,7 @@ fn logs_written_before_are_good() {
         (&mut played_counts, played.collect()),
     ] {
         for (log, tail) in logs {
-            if check(&log, tail) == Answer::Done(()) {
+            if check(eight(), &log, tail) == Answer::Done(()) {
                 let of_log = appended_again(&log, tail);
                 counts[0] += of_log[0];
                 counts[1] += of_log[1];
@@ -93,7 +94,7 @@ fn an_entry_is_judged_with_those_below_it_alone() {
     for case in broken() {
         if let Expected::Bad(at) = case.expected {
             assert_eq!(
-                check(&case.log, at as usize),
+                check(eight(), &case.log, at as usize),
                 Answer::Done(()),
                 "{}",
                 case.name
@@ -104,7 +105,7 @@ fn an_entry_is_judged_with_those_below_it_alone() {
                 told: Some(at),
             };
             assert_eq!(
-                check(&case.log[..cut], at as usize + 1),
+                check(eight(), &case.log[..cut], at as usize + 1),
                 bad,
                 "{}",
                 case.name
@@ -125,7 +126,7 @@ fn the_vectors_stay_within_their_bounds() {
 fn lists_equal_scans(log: &[u8], tail: usize) {
     for object in 1..=8 {
         let mut lent = vec![0; tail];
-        let count = list(log, tail, object, &mut lent).done().unwrap();
+        let count = list(eight(), log, tail, object, &mut lent).done().unwrap();
         let listed: Vec<usize> = lent[..count].iter().map(|at| *at as usize).collect();
         assert_eq!(listed, scan(log, tail, object));
     }
@@ -153,12 +154,12 @@ fn far_back_pointers() {
         history.step();
     }
     let Writer { log, tail, .. } = &history.writer;
-    assert_eq!(check(log, *tail), Answer::Done(()));
+    assert_eq!(check(eight(), log, *tail), Answer::Done(()));
     let far = (0..*tail).flat_map(|at| slot_at(log, at).headers());
     assert_eq!(far.filter(|header| header.format == 1).count(), 7);
     lists_equal_scans(log, *tail);
     assert_eq!(
-        audit(log, *tail, &mut vec![0; 100 * CELL]).0,
+        audit(eight(), log, *tail, &mut vec![0; 100 * CELL]).0,
         Answer::Done(())
     );
 }
@@ -171,14 +172,14 @@ fn a_writer_answers_as_the_plain_calls() {
         let mut tail = 0;
         for (request, answer) in &history.appends {
             let before = log.clone();
-            assert_eq!(append::request(&mut log, tail, request), *answer);
+            assert_eq!(append::request(eight(), &mut log, tail, request), *answer);
             match answer {
                 Answer::Done(after) => tail = *after,
                 Answer::Refused { .. } => assert_eq!(log, before),
             }
         }
         assert_eq!(log, history.writer.log);
-        assert_eq!(check(&log, tail), Answer::Done(()));
+        assert_eq!(check(eight(), &log, tail), Answer::Done(()));
     }
 }
 
@@ -194,7 +195,7 @@ fn two_good_entries_that_read_alike_are_the_same_bytes() {
             for change in [1, 2, 0x80, 0xFF] {
                 let mut other = log.clone();
                 other[at] ^= change;
-                if check(&other, *tail).is_done() {
+                if check(eight(), &other, *tail).is_done() {
                     assert_ne!(read_back(&other, last), read_back(log, last), "byte {at}");
                 }
             }
@@ -203,8 +204,9 @@ fn two_good_entries_that_read_alike_are_the_same_bytes() {
 }
 
 /// Kind, number, header objects and items, as an entry reads.
-fn read_back(log: &[u8], at: usize) -> (Option<u32>, u32, u8, &[u8]) {
+fn read_back(log: &[u8], at: usize) -> (Option<u32>, u32, Vec<u32>, &[u8]) {
     let slot = slot_at(log, at);
     let kind = slot.kind().map(|kind| kind as u32);
-    (kind, slot.number(), slot.objects(), slot.items())
+    let objects = slot.headers().map(|header| header.object).collect();
+    (kind, slot.number(), objects, slot.items())
 }

@@ -3,6 +3,7 @@
 use reference::append;
 use reference::append::{Request, Writer};
 use reference::audit::audit;
+use reference::directory::{eight, the_eight};
 use reference::log::{check, entry, header, items, list, next, owed, scan, Reader};
 use reference::replica::{open_at, open_fresh, play, play_in_place, read_cell, Record};
 use reference::report::playlog;
@@ -33,11 +34,11 @@ fn distances(log: &[u8], at: usize) -> [u16; 4] {
 }
 
 /// Plays a fresh replica of a set to the tail.
-fn play_fresh(log: &[u8], hosted: u8, cells: usize) -> (Answer<()>, Record, Vec<u8>) {
+fn play_fresh(log: &[u8], hosted: u64, cells: usize) -> (Answer<()>, Record, Vec<u8>) {
     let tail = log.len() / SLOT;
     let mut table = vec![0xAA; cells * CELL];
-    let fresh = open_fresh(hosted).done().unwrap();
-    let (answer, record) = play(log, tail, fresh, &mut table, tail as u64);
+    let fresh = open_fresh(eight(), hosted).done().unwrap();
+    let (answer, record) = play(eight(), log, tail, fresh, &mut table, tail as u64);
     (answer, record, table)
 }
 
@@ -48,16 +49,16 @@ fn empty_log_passes_and_has_no_cells() {
         position: 0,
         count: 0,
     };
-    assert_eq!(audit(&[], 0, &mut []), (Done(()), everything));
+    assert_eq!(audit(eight(), &[], 0, &mut []), (Done(()), everything));
     assert_eq!(
         playlog(&[]),
         "offset number outcome\nobject key value version\n"
     );
     let mut slots = vec![0; 3 * SLOT];
-    assert_eq!(check(&slots, 0), Done(()));
-    assert_eq!(owed(&slots, 0), Done(None));
+    assert_eq!(check(eight(), &slots, 0), Done(()));
+    assert_eq!(owed(eight(), &slots, 0), Done(None));
     assert_eq!(
-        append::update(&mut slots, 0, 0, &put(2, 7, 1).bytes()),
+        append::update(eight(), &mut slots, 0, 0, &put(2, 7, 1).bytes()),
         Done(1)
     );
 }
@@ -101,20 +102,20 @@ fn bench_log_with_read_version_2() {
     let mut log = log_of(&bench());
     slot_mut(&mut log, 3)[71] = 2;
     assert_eq!(log, log_of(&bench_with(2)));
-    assert_eq!(check(&log, 5), Done(()));
+    assert_eq!(check(eight(), &log, 5), Done(()));
     assert_eq!(playlog(&log), playlog(&log_of(&bench_with(0))));
     let (answer, record, table) = play_fresh(&log, 2, 1);
     assert_eq!((answer, record.position, record.count), (Done(()), 5, 1));
     assert_eq!(table, Row::of(2, 7, Some(40), 5).bytes());
     let mut scratch = [0; 24];
-    assert_eq!(audit(&log, 5, &mut scratch).0, Done(()));
+    assert_eq!(audit(eight(), &log, 5, &mut scratch).0, Done(()));
     assert_eq!(scratch[..], table);
     // a true decision record on it passes, a false one does not
     for (outcome, expected) in [(ABORT, Done(())), (COMMIT, refused_at(11, 5))] {
         let mut requests = bench_with(2);
         requests.push(decision(3, outcome));
         let log = log_of(&requests);
-        assert_eq!(audit(&log, 6, &mut scratch).0, expected);
+        assert_eq!(audit(eight(), &log, 6, &mut scratch).0, expected);
     }
 }
 
@@ -124,11 +125,11 @@ fn commits(base: &[Request], free: usize, number: u32, reads: &[Read]) -> (u32, 
     let tail = base.len();
     log.resize(log.len() + free * SLOT, 0x77);
     let before = log.clone();
-    match append::commit(&mut log, tail, number, &read_bytes(reads)) {
+    match append::commit(eight(), &mut log, tail, number, &read_bytes(reads)) {
         Done(after) => {
             assert_eq!(after, tail + 1);
-            assert_eq!(items(&log, after, tail as u64), read_bytes(reads));
-            assert_eq!(check(&log, after), Done(()));
+            assert_eq!(items(eight(), &log, after, tail as u64), read_bytes(reads));
+            assert_eq!(check(eight(), &log, after), Done(()));
             (0, None)
         }
         Answer::Refused { number, told } => {
@@ -218,21 +219,21 @@ fn versions_point_to_what_writes_the_cell() {
 fn bench_log_by_its_calls() {
     let mut log = log_of(&bench());
     log.resize(8 * SLOT, 0x5A);
-    assert_eq!(check(&log, 5), Done(()));
-    assert_eq!(owed(&log, 5), Done(None));
-    let three = entry(&log, 5, 3).done().unwrap();
+    assert_eq!(check(eight(), &log, 5), Done(()));
+    assert_eq!(owed(eight(), &log, 5), Done(None));
+    let three = entry(eight(), &log, 5, 3).done().unwrap();
     assert_eq!((three.kind, three.number), (Kind::Commit, 9));
     assert_eq!((three.headers, three.items), (1, 1));
-    assert_eq!(header(&log, 5, 3, 0).done().unwrap().object, 2);
-    assert_eq!(items(&log, 5, 3), read(2, 7, 1).bytes());
-    assert_eq!(next(&log, 5, 2, 3), (Done(Some(3)), 4));
-    assert_eq!(next(&log, 5, 2, 5), (Done(None), 5));
-    assert_eq!(next(&log, 5, 3, 0), (Done(None), 5));
+    assert_eq!(header(eight(), &log, 5, 3, 0).done().unwrap().object, 2);
+    assert_eq!(items(eight(), &log, 5, 3), read(2, 7, 1).bytes());
+    assert_eq!(next(eight(), &log, 5, 2, 3), (Done(Some(3)), 4));
+    assert_eq!(next(eight(), &log, 5, 2, 5), (Done(None), 5));
+    assert_eq!(next(eight(), &log, 5, 3, 0), (Done(None), 5));
     let mut reader = Reader { log: &log, next: 4 };
-    assert_eq!(reader.read(5, 2), Done(Some(4)));
+    assert_eq!(reader.read(eight(), 5, 2), Done(Some(4)));
     assert_eq!(reader.next, 5);
     let mut lent = [77; 7];
-    assert_eq!(list(&log, 5, 2, &mut lent), Done(5));
+    assert_eq!(list(eight(), &log, 5, 2, &mut lent), Done(5));
     assert_eq!(lent, [0, 1, 2, 3, 4, 77, 77]);
 }
 
@@ -269,27 +270,27 @@ fn formats_at_65535_and_65536() {
     let mut far = far(65_536);
     let stored = &far.log[65_536 * SLOT + 8..][..12];
     assert_eq!(stored, [0x80, 0, 0, 2, 0, 0, 0, 0, 0, 0, 0, 0]);
-    assert_eq!(check(&near.log, near.tail), Done(()));
-    assert_eq!(check(&far.log, far.tail), Done(()));
+    assert_eq!(check(eight(), &near.log, near.tail), Done(()));
+    assert_eq!(check(eight(), &far.log, far.tail), Done(()));
     // A second entry of object 2: the first is near again, the one at 0 is not.
     far.append(&update(0, &[put(2, 7, 3)]));
     assert_eq!(distances(&far.log, 65_537), [1, 0, 0, 0]);
     far.append(&commit(1, &[]));
     far.append(&update(0, &[put(2, 7, 3)]));
     assert_eq!(distances(&far.log, 65_538), [1, 2, 0, 0]);
-    assert_eq!(check(&far.log, far.tail), Done(()));
+    assert_eq!(check(eight(), &far.log, far.tail), Done(()));
     // The stream list crosses the far pointer; absolute offset 0 is an offset.
     let mut lent = [0; 4];
-    assert_eq!(list(&far.log, far.tail, 2, &mut lent), Done(4));
+    assert_eq!(list(eight(), &far.log, far.tail, 2, &mut lent), Done(4));
     assert_eq!(lent, [0, 65_536, 65_537, 65_538]);
     assert_eq!(scan(&far.log, far.tail, 2), [0, 65_536, 65_537, 65_538]);
     // Either format where the other is due is bad.
     let mut wrong = far.log.clone();
     wrong[65_536 * SLOT + 8] = 0;
-    assert_eq!(check(&wrong, far.tail), refused_at(2, 65_536));
+    assert_eq!(check(eight(), &wrong, far.tail), refused_at(2, 65_536));
     let mut wrong = near.log.clone();
     wrong[65_535 * SLOT + 8..][..12].copy_from_slice(&[0x80, 0, 0, 2, 0, 0, 0, 0, 0, 0, 0, 0]);
-    assert_eq!(check(&wrong, near.tail), refused_at(2, 65_535));
+    assert_eq!(check(eight(), &wrong, near.tail), refused_at(2, 65_535));
 }
 
 #[test]
@@ -299,7 +300,7 @@ fn put_then_remove_then_a_stale_read() {
     let (answer, record, table) = play_fresh(&log, 0b10, 1);
     assert_eq!((answer, record.count), (Done(()), 1));
     assert_eq!(
-        read_cell(&record, &table, 2, 7),
+        read_cell(eight(), &record, &table, 2, 7),
         Done(Cell::Removed { version: 2 })
     );
     assert_eq!(row(&table, 0), Row::of(2, 7, None, 2));
@@ -329,9 +330,9 @@ fn waiting_and_then_played_with_a_decision() {
     assert_eq!(table, vec![0xAA; CELL]);
     requests.push(decision(2, COMMIT));
     let longer = log_of(&requests);
-    let (answer, record) = play(&longer, 4, record, &mut table, 4);
+    let (answer, record) = play(eight(), &longer, 4, record, &mut table, 4);
     assert_eq!((answer, record.position), (Done(()), 4));
-    assert_eq!(read_cell(&record, &table, 5, 1), holds(3, 3));
+    assert_eq!(read_cell(eight(), &record, &table, 5, 1), holds(3, 3));
     // Stopped at the commit record it does not wait; without the decision it waits again.
     let (answer, record, _) = play_fresh(&log[..2 * SLOT], 1 << 4, 1);
     assert_eq!((answer, record.position), (Done(()), 2));
@@ -340,30 +341,33 @@ fn waiting_and_then_played_with_a_decision() {
     let aborted = log_of(&requests);
     let (answer, record, table) = play_fresh(&aborted, 1 << 4, 1);
     assert_eq!((answer, record.count), (Done(()), 0));
-    assert_eq!(read_cell(&record, &table, 5, 1), Done(Cell::NeverWritten));
-    let (answer, _) = audit(&aborted, 4, &mut [0; 10 * CELL]);
+    assert_eq!(
+        read_cell(eight(), &record, &table, 5, 1),
+        Done(Cell::NeverWritten)
+    );
+    let (answer, _) = audit(eight(), &aborted, 4, &mut [0; 10 * CELL]);
     assert_eq!(answer, refused_at(11, 3));
     // Who hosts all objects read decides alone.
     let (_, record, table) = play_fresh(&aborted, 1 << 4 | 1 << 1, 2);
-    assert_eq!(read_cell(&record, &table, 5, 1), holds(3, 3));
+    assert_eq!(read_cell(eight(), &record, &table, 5, 1), holds(3, 3));
 }
 
 #[test]
 fn tables_of_23_and_24_bytes() {
     let log = log_of(&bench());
-    let fresh = open_fresh(0b10).done().unwrap();
+    let fresh = open_fresh(eight(), 0b10).done().unwrap();
     let mut small = [0xAA; 23];
-    let (answer, record) = play(&log, 5, fresh, &mut small, 5);
+    let (answer, record) = play(eight(), &log, 5, fresh, &mut small, 5);
     assert_eq!((answer, record), (refused(13), fresh));
     assert_eq!(small, [0xAA; 23]);
-    let (answer, record) = audit(&log, 5, &mut small);
+    let (answer, record) = audit(eight(), &log, 5, &mut small);
     assert_eq!(answer, refused_at(13, 0));
     assert_eq!((record.hosted, record.position, record.count), (0xFF, 0, 0));
     let mut enough = [0xAA; 24];
-    let (answer, record) = play(&log, 5, fresh, &mut enough, 5);
+    let (answer, record) = play(eight(), &log, 5, fresh, &mut enough, 5);
     assert_eq!((answer, record.position, record.count), (Done(()), 5, 1));
     assert_eq!(enough[..], Row::of(2, 7, Some(42), 4).bytes());
-    assert_eq!(audit(&log, 5, &mut [0; 24]).0, Done(()));
+    assert_eq!(audit(eight(), &log, 5, &mut [0; 24]).0, Done(()));
 }
 
 #[test]
@@ -373,15 +377,15 @@ fn twelve_and_thirteen_reads() {
     let reads: Vec<_> = (0..13).map(|key| read(2, key, 0)).collect();
     let before = log.clone();
     assert_eq!(
-        append::commit(&mut log, 1, 3, &read_bytes(&reads)),
+        append::commit(eight(), &mut log, 1, 3, &read_bytes(&reads)),
         refused(3)
     );
     assert_eq!(log, before);
     assert_eq!(
-        append::commit(&mut log, 1, 3, &read_bytes(&reads[..12])),
+        append::commit(eight(), &mut log, 1, 3, &read_bytes(&reads[..12])),
         Done(2)
     );
-    assert_eq!(check(&log, 2), Done(()));
+    assert_eq!(check(eight(), &log, 2), Done(()));
 }
 
 #[test]
@@ -389,9 +393,9 @@ fn read_version_equal_to_the_tail() {
     let mut log = log_of(&[update(3, &[put(5, 1, 1)]), update(0, &[put(2, 7, 1)])]);
     log.resize(3 * SLOT, 0);
     let above = read(2, 7, 3).bytes();
-    assert_eq!(append::commit(&mut log, 2, 3, &above), refused(3));
+    assert_eq!(append::commit(eight(), &mut log, 2, 3, &above), refused(3));
     assert_eq!(
-        append::commit(&mut log, 2, 3, &read(2, 7, 2).bytes()),
+        append::commit(eight(), &mut log, 2, 3, &read(2, 7, 2).bytes()),
         Done(3)
     );
     assert!(playlog(&log).contains("2 3 commit"));
@@ -403,7 +407,7 @@ fn read_version_equal_to_the_tail() {
 fn an_offset_is_no_version() {
     let log = log_of(&[update(0, &[put(2, 7, 1)])]);
     let (_, record, table) = play_fresh(&log, 0b10, 1);
-    assert_eq!(read_cell(&record, &table, 2, 7), holds(1, 1));
+    assert_eq!(read_cell(eight(), &record, &table, 2, 7), holds(1, 1));
     // A read of version 0 is stale although the entry stands at offset 0.
     let log = log_of(&[
         update(0, &[put(2, 7, 1)]),
@@ -417,7 +421,7 @@ fn an_offset_is_no_version() {
 fn the_commit_record_gives_the_version() {
     let log = log_of(&bench());
     let (_, record, table) = play_fresh(&log, 0b10, 1);
-    assert_eq!(read_cell(&record, &table, 2, 7), holds(42, 4));
+    assert_eq!(read_cell(eight(), &record, &table, 2, 7), holds(42, 4));
 }
 
 #[test]
@@ -427,28 +431,28 @@ fn opened_at_a_checkpoint_updates_set_aside_before_count() {
         update(6, &[put(2, 8, 2)]),
     ];
     let (_, run) = grown(4, &requests);
-    requests.push(checkpoint_of(2, 2, &rows_of(&run, 0b10)));
+    requests.push(checkpoint_of(2, 2, &rows_of(the_eight(), &run, 0b10)));
     requests.push(commit(6, &[]));
     let log = log_of(&requests);
     let mut table = vec![0xAA; 5 * CELL + 3];
-    let record = open_at(&log, 4, 2, &mut table).done().unwrap();
+    let record = open_at(eight(), &log, 4, 2, &mut table).done().unwrap();
     assert_eq!((record.hosted, record.position, record.count), (0b10, 3, 3));
     assert_eq!(row(&table, 0), Row::of(2, 3, None, 1));
     assert_eq!(row(&table, 1), Row::of(2, 7, Some(1), 1));
     assert_eq!(row(&table, 2), Row::of(2, 9, Some(5), 1));
     assert_eq!(table[3 * CELL..], vec![0xAA; 2 * CELL + 3]);
-    let (answer, record) = play(&log, 4, record, &mut table, 4);
+    let (answer, record) = play(eight(), &log, 4, record, &mut table, 4);
     assert_eq!((answer, record.count), (Done(()), 4));
-    assert_eq!(read_cell(&record, &table, 2, 8), holds(2, 4));
+    assert_eq!(read_cell(eight(), &record, &table, 2, 8), holds(2, 4));
     assert_eq!(table[4 * CELL..], vec![0xAA; CELL + 3]);
-    assert_eq!(audit(&log, 4, &mut [0; 4 * CELL]).0, Done(()));
+    assert_eq!(audit(eight(), &log, 4, &mut [0; 4 * CELL]).0, Done(()));
 }
 
 #[test]
 fn an_aborted_write_raises_no_version() {
     let log = log_of(&bench());
     let (_, record, table) = play_fresh(&log, 0b10, 1);
-    assert_eq!(read_cell(&record, &table, 2, 7), holds(42, 4));
+    assert_eq!(read_cell(eight(), &record, &table, 2, 7), holds(42, 4));
     assert_eq!(record.count, 1);
 }
 
@@ -456,7 +460,7 @@ fn an_aborted_write_raises_no_version() {
 fn absolute_offset_0_is_an_entry() {
     let far = far(65_536);
     let mut lent = [7; 2];
-    assert_eq!(list(&far.log, far.tail, 2, &mut lent), Done(2));
+    assert_eq!(list(eight(), &far.log, far.tail, 2, &mut lent), Done(2));
     assert_eq!(lent, [0, 65_536]);
 }
 
@@ -473,12 +477,12 @@ fn refused_by_order(rows: &[Row], count: u64) -> [u32; 3] {
         position: 1,
         count,
     };
-    let (played, left) = play(&log, 1, record, &mut table, 1);
+    let (played, left) = play(eight(), &log, 1, record, &mut table, 1);
     assert_eq!((left, &table), (record, &given));
     let mut after = log.clone();
-    let appended = append::checkpoint(&mut after, 1, &record, &table, 2);
+    let appended = append::checkpoint(eight(), &mut after, 1, &record, &table, 2);
     assert!(appended.is_done() || after == log);
-    let read = read_cell(&record, &table, 2, 3);
+    let read = read_cell(eight(), &record, &table, 2, 3);
     [played.number(), appended.number(), read.number()]
 }
 
@@ -534,8 +538,8 @@ fn three_updates() -> Vec<u8> {
 fn rows_ascend_by_object_then_key() {
     let log = three_updates();
     let mut table = vec![7; 4 * CELL];
-    let fresh = open_fresh(18).done().unwrap();
-    let (answer, record) = play(&log, 3, fresh, &mut table, 3);
+    let fresh = open_fresh(eight(), 18).done().unwrap();
+    let (answer, record) = play(eight(), &log, 3, fresh, &mut table, 3);
     assert_eq!((answer, record.count), (Done(()), 3));
     let expected = [
         0, 0, 0, 2, 0, 0, 0, 3, 0, 0, 0, 5, 0, 0, 0, 1, 0, 0, 0, 0, 0, 0, 0, 2, //
@@ -546,14 +550,14 @@ fn rows_ascend_by_object_then_key() {
     assert_eq!(table, expected);
     // The audit's scratch likewise.
     let mut scratch = vec![7; 4 * CELL];
-    assert_eq!(audit(&log, 3, &mut scratch).0, Done(()));
+    assert_eq!(audit(eight(), &log, 3, &mut scratch).0, Done(()));
     assert_eq!(scratch, expected);
     // Without room for the third cell.
     for audited in [false, true] {
         let mut table = vec![7; 2 * CELL];
         let (answer, left) = match audited {
-            true => audit(&log, 3, &mut table),
-            false => play(&log, 3, fresh, &mut table, 3),
+            true => audit(eight(), &log, 3, &mut table),
+            false => play(eight(), &log, 3, fresh, &mut table, 3),
         };
         assert_eq!(answer.number(), 13);
         assert_eq!((left.position, left.count), (1, 2));
@@ -578,7 +582,7 @@ fn a_row_that_is_not_written_moves_whole() {
         position: 0,
         count: 1,
     };
-    let (answer, left) = play(&log, 1, record, &mut table, 1);
+    let (answer, left) = play(eight(), &log, 1, record, &mut table, 1);
     assert_eq!((answer, left.count), (Done(()), 2));
     assert_eq!(table, table_of(&[Row::of(2, 7, Some(1), 1), other]));
 }
@@ -600,7 +604,7 @@ fn a_table_of_70_000_other_rows() {
         position: 0,
         count: 70_000,
     };
-    let (answer, left) = play(&log, 2, record, &mut table, 2);
+    let (answer, left) = play(eight(), &log, 2, record, &mut table, 2);
     assert_eq!(answer, refused(13));
     assert_eq!((left.position, left.count), (1, 70_004));
     let new = writes.map(|write| Row::of(write.object, write.key, Some(write.value), 1));
@@ -608,7 +612,7 @@ fn a_table_of_70_000_other_rows() {
     rows.sort_by_key(|row| (row.object, row.key));
     assert_eq!(table[..70_004 * CELL], table_of(&rows));
     assert_eq!(table[70_004 * CELL..], [0xAA; 5]);
-    assert_eq!(read_cell(&left, &table, 8, 0), holds(2, 1));
+    assert_eq!(read_cell(eight(), &left, &table, 8, 0), holds(2, 1));
 }
 
 #[test]
@@ -622,15 +626,18 @@ fn a_present_field_other_than_1_is_removed() {
         count: 1,
     };
     assert_eq!(
-        read_cell(&record, &table, 2, 7),
+        read_cell(eight(), &record, &table, 2, 7),
         Done(Cell::Removed { version: 1 })
     );
     let mut log = log_of(&[update(0, &[remove(2, 7)])]);
     log.resize(2 * SLOT, 0);
-    assert_eq!(append::checkpoint(&mut log, 1, &record, &table, 2), Done(2));
+    assert_eq!(
+        append::checkpoint(eight(), &mut log, 1, &record, &table, 2),
+        Done(2)
+    );
     let item = &log[SLOT + 56..][..16];
     assert_eq!(item, [0, 0, 0, 7, 0, 0, 0, 0, 0x80, 0, 0, 0, 0, 0, 0, 1]);
-    assert_eq!(audit(&log, 2, &mut [0; CELL]).0, Done(()));
+    assert_eq!(audit(eight(), &log, 2, &mut [0; CELL]).0, Done(()));
 }
 
 #[test]
@@ -653,12 +660,15 @@ fn no_room_shows_nothing_of_its_entry() {
 #[test]
 fn in_place_answers_as_the_ordinary_call() {
     let log = log_of(&bench());
-    let fresh = open_fresh(0xFF).done().unwrap();
+    let fresh = open_fresh(eight(), 0xFF).done().unwrap();
     for (cells, stop) in [(0, 5), (1, 3), (1, 5), (1, 6), (2, 0)] {
         let (mut table, mut other) = (vec![1; cells * CELL], vec![1; cells * CELL]);
         let mut record = fresh;
-        let answer = play_in_place(&log, 5, &mut record, &mut table, stop);
-        assert_eq!((answer, record), play(&log, 5, fresh, &mut other, stop));
+        let answer = play_in_place(eight(), &log, 5, &mut record, &mut table, stop);
+        assert_eq!(
+            (answer, record),
+            play(eight(), &log, 5, fresh, &mut other, stop)
+        );
         assert_eq!(table, other);
     }
 }
@@ -673,13 +683,13 @@ fn owed_is_the_lowest_marked_commit_without_a_decision() {
         commit(2, &[read(3, 1, 0)]),
         commit(3, &[read(5, 1, 0), read(6, 0, 0)]),
     ];
-    assert_eq!(owed(&log_of(&requests), 6), Done(Some(4)));
-    assert_eq!(owed(&log_of(&requests), 4), Done(None));
+    assert_eq!(owed(eight(), &log_of(&requests), 6), Done(Some(4)));
+    assert_eq!(owed(eight(), &log_of(&requests), 4), Done(None));
     requests.push(decision(4, COMMIT));
-    assert_eq!(owed(&log_of(&requests), 7), Done(Some(5)));
-    assert_eq!(owed(&log_of(&requests), 6), Done(Some(4)));
+    assert_eq!(owed(eight(), &log_of(&requests), 7), Done(Some(5)));
+    assert_eq!(owed(eight(), &log_of(&requests), 6), Done(Some(4)));
     requests.push(decision(5, COMMIT));
-    assert_eq!(owed(&log_of(&requests), 8), Done(None));
+    assert_eq!(owed(eight(), &log_of(&requests), 8), Done(None));
 }
 
 #[test]
@@ -738,7 +748,7 @@ fn the_audit_finds_each_false_record() {
         let log = log_of(&requests);
         let tail = requests.len();
         let mut scratch = vec![0xAA; 3 * CELL];
-        let (answer, record) = audit(&log, tail, &mut scratch);
+        let (answer, record) = audit(eight(), &log, tail, &mut scratch);
         assert_eq!(answer, expected, "{requests:?}");
         // "scratch as played to the tail"
         assert_eq!((record.position, record.count), (tail as u64, 2));
@@ -746,7 +756,7 @@ fn the_audit_finds_each_false_record() {
         assert_eq!(row(&scratch, 1), Row::of(5, 1, Some(3), 3));
         assert_eq!(scratch[2 * CELL..], [0xAA; CELL]);
         // 13 comes before 11.
-        let (answer, record) = audit(&log, tail, &mut [0; CELL]);
+        let (answer, record) = audit(eight(), &log, tail, &mut [0; CELL]);
         assert_eq!((answer, record.position), (refused_at(13, 2), 2));
     }
 }

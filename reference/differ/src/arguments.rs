@@ -1,8 +1,8 @@
 //! Random arguments: mostly such as have a meaning for the log, some just outside, some of any kind.
 
 use reference::append::Request;
-use reference::objects::object as listed;
-use reference::random::{edge, junk, put_in_order, Random};
+use reference::directory::{the_eight, Directory};
+use reference::random::{self, edge, faulty_directory, flip, junk, put_in_order, Random};
 use reference::replica::Record;
 use reference::sample::{commit, put, read, remove, table_of, update};
 use reference::slot::{Read, Write};
@@ -12,11 +12,36 @@ use crate::calls::Call;
 
 /// A log as a caller knows it.
 #[derive(Clone, Copy, Debug)]
-pub struct Seen {
+pub struct Seen<'a> {
+    pub directory: &'a Directory,
     pub tail: u64,
     pub slots: u64,
     /// How many keys of each object are in use.
     pub keys: u32,
+}
+
+/// The directory of a case: mostly any, else the eight.
+pub fn directory(random: &mut Random) -> Directory {
+    match random.percent(65) {
+        true => random::directory(random),
+        false => the_eight().clone(),
+    }
+}
+
+/// The bytes of a directory for one call, now and then other than the log's: faulty, of another log, or with a byte changed.
+pub fn handed(random: &mut Random, directory: &Directory) -> Vec<u8> {
+    let mut bytes = directory.bytes();
+    if !random.percent(12) {
+        return bytes;
+    }
+    match random.below(4) {
+        0..=1 => faulty_directory(random),
+        2 => random::directory(random).bytes(),
+        _ => {
+            flip(random, &mut bytes);
+            bytes
+        }
+    }
 }
 
 /// A number below the second bound, or, at that chance in percent, below the first.
@@ -49,25 +74,40 @@ pub fn tail(random: &mut Random, seen: Seen) -> u64 {
     }
 }
 
-/// An object's id, mostly of the list.
-pub fn object(random: &mut Random) -> u32 {
+/// An object's id, mostly of the directory.
+pub fn object(random: &mut Random, directory: &Directory) -> u32 {
+    let listed = random
+        .pick(directory.objects())
+        .map_or(1, |object| object.id);
     match random.below(16) {
         0 => 0,
         1 => random
-            .pick(&[9, 10, 261, 0x8000_0002, 0xFFFF_FFFF])
+            .pick(&[
+                9,
+                10,
+                261,
+                0x8000_0002,
+                0xFFFF_FFFF,
+                listed + 1,
+                listed | 1 << 31,
+            ])
             .unwrap_or(9),
-        _ => 1 + random.below(8) as u32,
+        _ => listed,
     }
 }
 
 /// A key, mostly one in use.
-pub fn key(random: &mut Random, object: u32, keys: u32) -> u32 {
-    let highest = listed(object).map_or(0, |object| object.highest_key);
+pub fn key(random: &mut Random, directory: &Directory, object: u32, keys: u32) -> u32 {
+    let highest = directory
+        .object(object)
+        .map_or(0, |object| object.highest_key);
+    let near = random.below(u64::from(keys.min(highest + 1))) as u32;
     match random.below(16) {
         0 => highest,
         1 => highest + 1,
         2 => edge(random) as u32,
-        _ => random.below(u64::from(keys.min(highest + 1))) as u32,
+        3..=7 if directory != the_eight() => highest - near,
+        _ => near,
     }
 }
 
@@ -107,7 +147,7 @@ pub fn table(random: &mut Random, seen: Seen) -> Vec<u8> {
 }
 
 fn row(random: &mut Random, seen: Seen) -> Row {
-    let object = object(random);
+    let object = object(random, seen.directory);
     let present = match random.below(10) {
         0..=5 => 1,
         6..=7 => 0,
@@ -115,7 +155,7 @@ fn row(random: &mut Random, seen: Seen) -> Row {
     };
     Row {
         object,
-        key: key(random, object, seen.keys),
+        key: key(random, seen.directory, object, seen.keys),
         value: random.below(5) as u32,
         present,
         version: version(random, seen.tail),
@@ -123,20 +163,24 @@ fn row(random: &mut Random, seen: Seen) -> Row {
 }
 
 /// A hosted set: one object, all, any.
-pub fn hosted(random: &mut Random) -> u8 {
+pub fn hosted(random: &mut Random, directory: &Directory) -> u64 {
+    let all = directory.everything();
     match random.below(12) {
-        0..=3 => 1 << random.below(8),
-        4..=5 => 0xFF,
+        0..=3 => 1 << random.below(directory.objects().len() as u64),
+        4..=5 => all,
         6 => 0,
-        _ => random.number() as u8,
+        // with a bit past the last record, where there is room for one
+        7 if random.percent(50) => random.number() | 1 << 63,
+        _ => random.number() & all,
     }
 }
 
 /// A record for a table, mostly a good one.
-pub fn record(random: &mut Random, tail: u64, table: &[u8]) -> Record {
+pub fn record(random: &mut Random, seen: Seen, table: &[u8]) -> Record {
+    let tail = seen.tail;
     let capacity = (table.len() / CELL) as u64;
     Record {
-        hosted: hosted(random),
+        hosted: hosted(random, seen.directory),
         position: match random.below(10) {
             0..=3 => random.below(tail + 1),
             4..=7 => tail,
@@ -152,9 +196,9 @@ pub fn record(random: &mut Random, tail: u64, table: &[u8]) -> Record {
     }
 }
 
-fn write(random: &mut Random, keys: u32) -> Write {
-    let object = object(random);
-    let key = key(random, object, keys);
+fn write(random: &mut Random, seen: Seen) -> Write {
+    let object = object(random, seen.directory);
+    let key = key(random, seen.directory, object, seen.keys);
     match random.below(12) {
         0..=1 => remove(object, key),
         2 => Write {
@@ -174,8 +218,8 @@ fn reads(random: &mut Random, seen: Seen) -> Vec<Read> {
     let count = mostly(random, 10, 15, 4);
     let mut reads: Vec<Read> = (0..count)
         .map(|_| {
-            let object = object(random);
-            let key = key(random, object, seen.keys);
+            let object = object(random, seen.directory);
+            let key = key(random, seen.directory, object, seen.keys);
             read(object, key, version(random, seen.tail))
         })
         .collect();
@@ -203,7 +247,7 @@ pub fn append(random: &mut Random, seen: Seen, kind: u64) -> Request {
         },
         0 => {
             let count = mostly(random, 10, 15, 4);
-            let writes: Vec<Write> = (0..count).map(|_| write(random, seen.keys)).collect();
+            let writes: Vec<Write> = (0..count).map(|_| write(random, seen)).collect();
             update(number(random, seen.tail), &writes)
         }
         1 if random.percent(10) => Request::Commit {
@@ -224,9 +268,9 @@ pub fn append(random: &mut Random, seen: Seen, kind: u64) -> Request {
         _ => {
             let table = table(random, seen);
             Request::Checkpoint {
-                record: record(random, seen.tail, &table),
+                record: record(random, seen, &table),
                 table,
-                object: object(random),
+                object: object(random, seen.directory),
             }
         }
     }
@@ -252,16 +296,16 @@ pub fn call(random: &mut Random, seen: Seen, place: usize) -> Call {
             offset: offset(random, tail),
         },
         5 => Call::StreamNext {
-            object: object(random),
+            object: object(random, seen.directory),
             from: offset(random, tail),
         },
         6 => Call::StreamList {
-            object: object(random),
+            object: object(random, seen.directory),
             list: vec![0xABCD_EF01; random.below(tail / 2 + 4) as usize],
         },
         7..=10 => Call::Append(append(random, seen, place as u64 - 7)),
         11 => Call::OpenFresh {
-            hosted: hosted(random),
+            hosted: hosted(random, seen.directory),
         },
         12 => Call::OpenCheckpoint {
             offset: offset(random, tail),
@@ -269,7 +313,7 @@ pub fn call(random: &mut Random, seen: Seen, place: usize) -> Call {
         },
         13 => {
             let table = table(random, seen);
-            let record = record(random, tail, &table);
+            let record = record(random, seen, &table);
             let stop = match random.below(10) {
                 0 => edge(random),
                 1 => tail + 1,
@@ -284,12 +328,12 @@ pub fn call(random: &mut Random, seen: Seen, place: usize) -> Call {
         }
         14 => {
             let table = table(random, seen);
-            let object = object(random);
+            let object = object(random, seen.directory);
             Call::ReadCell {
-                record: record(random, tail, &table),
+                record: record(random, seen, &table),
                 table,
                 object,
-                key: key(random, object, seen.keys),
+                key: key(random, seen.directory, object, seen.keys),
             }
         }
         _ => Call::Audit {

@@ -8,7 +8,7 @@ use reference::slot::{MOST_SLOTS, SLOT};
 use crate::guarded::{Lent, Out};
 use crate::library::*;
 
-/// The arguments after log and tail. What a call may write is in it, as it is before the call.
+/// The arguments after directory, log and tail. What a call may write is in it, as it is before the call.
 #[derive(Clone, Debug)]
 pub enum Call {
     Check,
@@ -33,7 +33,7 @@ pub enum Call {
     },
     Append(Request),
     OpenFresh {
-        hosted: u8,
+        hosted: u64,
     },
     OpenCheckpoint {
         offset: u64,
@@ -174,33 +174,33 @@ pub fn hex(bytes: &[u8]) -> String {
 }
 
 /// The second implementation's answer; what it writes is written.
-pub fn by_reference(log: &mut [u8], tail: u64, call: &mut Call) -> Said {
+pub fn by_reference(dir: &[u8], log: &mut [u8], tail: u64, call: &mut Call) -> Said {
     let tail = tail as usize;
     match call {
-        Call::Check => boundary::check(log, tail),
-        Call::Owed => boundary::owed(log, tail),
-        Call::Entry { offset } => boundary::entry(log, tail, *offset),
-        Call::Header { offset, place } => boundary::header(log, tail, *offset, *place),
-        Call::Items { offset } => boundary::items(log, tail, *offset),
-        Call::StreamNext { object, from } => boundary::stream_next(log, tail, *object, *from),
-        Call::StreamList { object, list } => boundary::stream_list(log, tail, *object, list),
-        Call::Append(request) => boundary::append(log, tail, request),
-        Call::OpenFresh { hosted } => boundary::open_fresh(*hosted),
+        Call::Check => boundary::check(dir, log, tail),
+        Call::Owed => boundary::owed(dir, log, tail),
+        Call::Entry { offset } => boundary::entry(dir, log, tail, *offset),
+        Call::Header { offset, place } => boundary::header(dir, log, tail, *offset, *place),
+        Call::Items { offset } => boundary::items(dir, log, tail, *offset),
+        Call::StreamNext { object, from } => boundary::stream_next(dir, log, tail, *object, *from),
+        Call::StreamList { object, list } => boundary::stream_list(dir, log, tail, *object, list),
+        Call::Append(request) => boundary::append(dir, log, tail, request),
+        Call::OpenFresh { hosted } => boundary::open_fresh(dir, *hosted),
         Call::OpenCheckpoint { offset, table } => {
-            boundary::open_checkpoint(log, tail, *offset, table)
+            boundary::open_checkpoint(dir, log, tail, *offset, table)
         }
         Call::Play {
             record,
             table,
             stop,
-        } => boundary::play(log, tail, *record, table, *stop),
+        } => boundary::play(dir, log, tail, *record, table, *stop),
         Call::ReadCell {
             record,
             table,
             object,
             key,
-        } => boundary::read_cell(*record, table, *object, *key),
-        Call::Audit { scratch } => boundary::audit(log, tail, scratch),
+        } => boundary::read_cell(dir, *record, table, *object, *key),
+        Call::Audit { scratch } => boundary::audit(dir, log, tail, scratch),
     }
 }
 
@@ -209,6 +209,7 @@ pub struct Library {
     number: u32,
     out: Out,
     out_length: usize,
+    dir: Lent<u8>,
     log: Lent<u8>,
     /// Table, scratch, items or reads.
     bytes: Lent<u8>,
@@ -222,6 +223,7 @@ impl Default for Library {
             number: 0,
             out: Out::new(),
             out_length: 0,
+            dir: Lent::new(1 << 16, 0xC7),
             log: Lent::new((MOST_SLOTS + 1) * SLOT, 0xC7),
             bytes: Lent::new(1 << 23, 0xC7),
             list: Lent::new(1 << 18, 0xC7C7_C7C7),
@@ -252,8 +254,15 @@ fn lent_list(call: &Call) -> &[u32] {
     }
 }
 
-fn made(library: &mut Library, bytes_of_log: &[u8], tail: u64, call: &Call) -> u32 {
+fn made(
+    library: &mut Library,
+    bytes_of_dir: &[u8],
+    bytes_of_log: &[u8],
+    tail: u64,
+    call: &Call,
+) -> u32 {
     let closed = library.calls.is_multiple_of(2);
+    let (dir, dir_len) = library.dir.lend(bytes_of_dir, closed);
     let (log, log_len) = library.log.lend(bytes_of_log, closed);
     let (bytes, bytes_len) = library.bytes.lend(lent_bytes(call), closed);
     let (list, list_len) = library.list.lend(lent_list(call), closed);
@@ -261,33 +270,39 @@ fn made(library: &mut Library, bytes_of_log: &[u8], tail: u64, call: &Call) -> u
     // Every pointer is to memory of the length beside it, which nobody else uses during the call.
     unsafe {
         match call {
-            Call::Check => stocklog_check(log, log_len, tail, out),
-            Call::Owed => stocklog_owed(log, log_len, tail, out),
-            Call::Entry { offset } => stocklog_entry(log, log_len, tail, *offset, out),
+            Call::Check => stocklog_check(dir, dir_len, log, log_len, tail, out),
+            Call::Owed => stocklog_owed(dir, dir_len, log, log_len, tail, out),
+            Call::Entry { offset } => {
+                stocklog_entry(dir, dir_len, log, log_len, tail, *offset, out)
+            }
             Call::Header { offset, place } => {
-                stocklog_header(log, log_len, tail, *offset, *place, out)
+                stocklog_header(dir, dir_len, log, log_len, tail, *offset, *place, out)
             }
-            Call::Items { offset } => stocklog_items(log, log_len, tail, *offset, out),
+            Call::Items { offset } => {
+                stocklog_items(dir, dir_len, log, log_len, tail, *offset, out)
+            }
             Call::StreamNext { object, from } => {
-                stocklog_stream_next(log, log_len, tail, *object, *from, out)
+                stocklog_stream_next(dir, dir_len, log, log_len, tail, *object, *from, out)
             }
-            Call::StreamList { object, .. } => {
-                stocklog_stream_list(log, log_len, tail, *object, list, list_len, out)
-            }
-            Call::Append(Request::Update { number, .. }) => {
-                stocklog_append_update(log, log_len, tail, *number, bytes, bytes_len, out)
-            }
-            Call::Append(Request::Commit { number, .. }) => {
-                stocklog_append_commit(log, log_len, tail, *number, bytes, bytes_len, out)
-            }
+            Call::StreamList { object, .. } => stocklog_stream_list(
+                dir, dir_len, log, log_len, tail, *object, list, list_len, out,
+            ),
+            Call::Append(Request::Update { number, .. }) => stocklog_append_update(
+                dir, dir_len, log, log_len, tail, *number, bytes, bytes_len, out,
+            ),
+            Call::Append(Request::Commit { number, .. }) => stocklog_append_commit(
+                dir, dir_len, log, log_len, tail, *number, bytes, bytes_len, out,
+            ),
             Call::Append(Request::Decision { offset, outcome }) => {
-                stocklog_append_decision(log, log_len, tail, *offset, *outcome, out)
+                stocklog_append_decision(dir, dir_len, log, log_len, tail, *offset, *outcome, out)
             }
             Call::Append(Request::Checkpoint { record, object, .. }) => stocklog_append_checkpoint(
+                dir,
+                dir_len,
                 log,
                 log_len,
                 tail,
-                record.hosted,
+                record.hosted as Hosted,
                 record.position,
                 record.count,
                 bytes,
@@ -295,15 +310,17 @@ fn made(library: &mut Library, bytes_of_log: &[u8], tail: u64, call: &Call) -> u
                 *object,
                 out,
             ),
-            Call::OpenFresh { hosted } => stocklog_open_fresh(*hosted, out),
-            Call::OpenCheckpoint { offset, .. } => {
-                stocklog_open_checkpoint(log, log_len, tail, *offset, bytes, bytes_len, out)
-            }
+            Call::OpenFresh { hosted } => stocklog_open_fresh(dir, dir_len, *hosted as Hosted, out),
+            Call::OpenCheckpoint { offset, .. } => stocklog_open_checkpoint(
+                dir, dir_len, log, log_len, tail, *offset, bytes, bytes_len, out,
+            ),
             Call::Play { record, stop, .. } => stocklog_play(
+                dir,
+                dir_len,
                 log,
                 log_len,
                 tail,
-                record.hosted,
+                record.hosted as Hosted,
                 record.position,
                 record.count,
                 bytes,
@@ -317,7 +334,9 @@ fn made(library: &mut Library, bytes_of_log: &[u8], tail: u64, call: &Call) -> u
                 key,
                 ..
             } => stocklog_read_cell(
-                record.hosted,
+                dir,
+                dir_len,
+                record.hosted as Hosted,
                 record.position,
                 record.count,
                 bytes,
@@ -326,22 +345,30 @@ fn made(library: &mut Library, bytes_of_log: &[u8], tail: u64, call: &Call) -> u
                 *key,
                 out,
             ),
-            Call::Audit { .. } => stocklog_audit(log, log_len, tail, bytes, bytes_len, out),
+            Call::Audit { .. } => {
+                stocklog_audit(dir, dir_len, log, log_len, tail, bytes, bytes_len, out)
+            }
         }
     }
 }
 
 impl Library {
     /// Makes a call.
-    pub fn call(&mut self, log: &[u8], tail: u64, call: &Call) {
+    pub fn call(&mut self, dir: &[u8], log: &[u8], tail: u64, call: &Call) {
         self.calls += 1;
         self.out = Out::new();
         self.out_length = call.out_length();
-        self.number = made(self, log, tail, call);
+        self.number = made(self, dir, log, tail, call);
     }
 
     /// What is other than the second implementation says and leaves.
-    pub fn difference(&mut self, said: &Said, log: &[u8], after: &Call) -> Option<String> {
+    pub fn difference(
+        &mut self,
+        said: &Said,
+        dir: &[u8],
+        log: &[u8],
+        after: &Call,
+    ) -> Option<String> {
         let out = self.out.numbers(self.out_length);
         let due = &said.out[..self.out_length];
         if self.number != said.number || out != due {
@@ -354,8 +381,9 @@ impl Library {
             return Some("the library wrote outside out".to_string());
         }
         let bytes = lent_bytes(after);
-        self.log
-            .difference("log", log)
+        self.dir
+            .difference("directory", dir)
+            .or_else(|| self.log.difference("log", log))
             .or_else(|| self.bytes.difference("table, scratch or items", bytes))
             .or_else(|| self.list.difference("list", lent_list(after)))
     }

@@ -4,6 +4,7 @@ use std::collections::BTreeMap;
 
 use reference::append::Request;
 use reference::boundary::Said;
+use reference::directory::Directory;
 use reference::header::{BackPointer, Header, FARTHEST};
 use reference::replica::{pointed_at, Record};
 use reference::rules::objects_written;
@@ -50,6 +51,18 @@ pub const CASES: [&str; 34] = [
     "append_commit: 0 with a commit record's version",
 ];
 
+/// Cases of directories that must be met, beside 15 in every call.
+pub const DIRECTED_CASES: [&str; 8] = [
+    "15 at place 0",
+    "15 past place 0",
+    "15 at place 64",
+    "append_checkpoint: 10 for a bit past the last record",
+    "open_fresh: 10 for a bit past the last record",
+    "play: 10 for a bit past the last record",
+    "read_cell: 10 for a bit past the last record",
+    "open_fresh: all of 64 objects",
+];
+
 /// Met on far logs alone.
 pub const FAR_CASE: &str = "header: format 1";
 
@@ -63,7 +76,7 @@ pub struct Cover {
 
 impl Cover {
     /// Takes in a call, as it was before, and its answer.
-    pub fn note(&mut self, log: &[u8], tail: u64, call: &Call, said: &Said) {
+    pub fn note(&mut self, dir: &[u8], log: &[u8], tail: u64, call: &Call, said: &Said) {
         self.calls += 1;
         let number = (said.number as usize).min(17);
         self.numbers[call.place()][number] += 1;
@@ -73,7 +86,9 @@ impl Cover {
             }
             _ => Vec::new(),
         };
-        for case in case_of(log, call, said).into_iter().chain(of_commit) {
+        let directed = directed_case(dir, call, said).map(|place| DIRECTED_CASES[place]);
+        let of_call = case_of(dir, log, call, said);
+        for case in of_call.into_iter().chain(of_commit).chain(directed) {
             *self.cases.entry(case).or_default() += 1;
         }
     }
@@ -82,9 +97,8 @@ impl Cover {
     pub fn table(&self) -> String {
         let mut text = String::new();
         for (place, (name, allowed)) in NAMES.iter().enumerate() {
-            let counts: Vec<String> = allowed
-                .iter()
-                .map(|&number| format!("{number}: {}", self.numbers[place][number as usize]))
+            let counts: Vec<String> = numbers(allowed)
+                .map(|number| format!("{number}: {}", self.numbers[place][number as usize]))
                 .collect();
             text += &format!("{name:18} {}\n", counts.join(", "));
         }
@@ -98,13 +112,17 @@ impl Cover {
     pub fn missing(&self, far: bool) -> Vec<String> {
         let mut missing = Vec::new();
         for (place, (name, allowed)) in NAMES.iter().enumerate() {
-            for &number in *allowed {
+            for number in numbers(allowed) {
                 if self.numbers[place][number as usize] == 0 {
                     missing.push(format!("{name}: {number}"));
                 }
             }
         }
-        let cases = CASES.iter().copied().chain(far.then_some(FAR_CASE));
+        let cases = CASES
+            .iter()
+            .chain(&DIRECTED_CASES)
+            .copied()
+            .chain(far.then_some(FAR_CASE));
         missing.extend(
             cases
                 .filter(|case| !self.cases.contains_key(case))
@@ -114,9 +132,37 @@ impl Cover {
     }
 }
 
+/// The numbers allowed, and 15, which every call can answer.
+fn numbers(allowed: &[u32]) -> impl Iterator<Item = u32> + '_ {
+    allowed.iter().copied().chain([15])
+}
+
+/// What a call met of its directory, by its place among those cases.
+fn directed_case(dir: &[u8], call: &Call, said: &Said) -> Option<usize> {
+    if said.number == 15 {
+        return Some(match said.out[3] {
+            0 => 0,
+            64 => 2,
+            _ => 1,
+        });
+    }
+    let past = |hosted: u64| {
+        let directory = Directory::of(dir).ok()?;
+        (said.number == 10 && hosted & !directory.everything() != 0).then_some(())
+    };
+    match call {
+        Call::Append(Request::Checkpoint { record, .. }) => past(record.hosted).map(|()| 3),
+        Call::OpenFresh { hosted: u64::MAX } if said.number == 0 => Some(7),
+        Call::OpenFresh { hosted } => past(*hosted).map(|()| 4),
+        Call::Play { record, .. } => past(record.hosted).map(|()| 5),
+        Call::ReadCell { record, .. } => past(record.hosted).map(|()| 6),
+        _ => None,
+    }
+}
+
 /// The record's set and count are good, and its rows do not ascend.
-fn disorder_alone(record: &Record, table: &[u8]) -> bool {
-    record.hosted != 0
+fn disorder_alone(dir: &[u8], record: &Record, table: &[u8]) -> bool {
+    Directory::of(dir).is_ok_and(|directory| directory.can_host(record.hosted))
         && record.count <= capacity(table) as u64
         && !in_order(table, record.count as usize)
 }
@@ -172,7 +218,7 @@ fn commit_cases(
         .collect()
 }
 
-fn case_of(log: &[u8], call: &Call, said: &Said) -> Option<&'static str> {
+fn case_of(dir: &[u8], log: &[u8], call: &Call, said: &Said) -> Option<&'static str> {
     let (number, out) = (said.number, &said.out);
     match (call, number) {
         (Call::Check, 2) => bad_header(log, out[3] as usize),
@@ -183,7 +229,9 @@ fn case_of(log: &[u8], call: &Call, said: &Said) -> Option<&'static str> {
             Some(["stream_next: the end", "stream_next: an entry"][out[0] as usize])
         }
         (Call::Append(Request::Update { items, .. }), 5) => {
-            if objects_written(writes_in(items)).count_ones() > 4 {
+            let directory = Directory::of(dir).ok()?;
+            let objects = objects_written(&directory, writes_in(items))?;
+            if objects.count_ones() > 4 {
                 Some("append_update: 5 for its own objects")
             } else {
                 Some("append_update: 5 for its transaction")
@@ -191,12 +239,14 @@ fn case_of(log: &[u8], call: &Call, said: &Said) -> Option<&'static str> {
         }
         (Call::ReadCell { .. }, 0) => Some(CASES[11 + out[0] as usize]),
         (Call::Append(Request::Checkpoint { record, table, .. }), 10)
-            if disorder_alone(record, table) =>
+            if disorder_alone(dir, record, table) =>
         {
             Some(CASES[20])
         }
-        (Call::Play { record, table, .. }, 10) if disorder_alone(record, table) => Some(CASES[21]),
-        (Call::ReadCell { record, table, .. }, 10) if disorder_alone(record, table) => {
+        (Call::Play { record, table, .. }, 10) if disorder_alone(dir, record, table) => {
+            Some(CASES[21])
+        }
+        (Call::ReadCell { record, table, .. }, 10) if disorder_alone(dir, record, table) => {
             Some(CASES[22])
         }
         (Call::Play { record, .. }, 12) if out[1] > record.position => {

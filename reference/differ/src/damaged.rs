@@ -1,9 +1,10 @@
 //! Damaged logs and junk: a grown log is changed, and every call is made on it with arguments of any kind.
 
 use reference::bytes::{get32, put16, put32, put64};
+use reference::directory::{places, Directory};
+use reference::earlier::Earlier;
 use reference::header::Header;
 use reference::log::pass;
-use reference::objects::ids;
 use reference::random::{damage, edge, junk, History, Random};
 use reference::sample::{put, read, remove};
 use reference::slot::{
@@ -20,7 +21,9 @@ use crate::pair::{Difference, Pair};
 pub fn damaged(pair: &mut Pair, seed: u64) -> Result<(), Difference> {
     pair.begin("damaged", seed);
     let mut random = Random::new(seed ^ 0x5EED_0002);
-    let (mut log, mut seen) = grown(&mut random, seed);
+    let directory = arguments::directory(&mut random);
+    pair.dir = directory.bytes();
+    let (mut log, mut seen) = grown(&mut random, &directory, seed);
     let changes = 1 + u64::from(random.percent(15)) * random.below(3);
     for _ in 0..changes {
         change(&mut random, &mut log, &mut seen);
@@ -38,12 +41,13 @@ pub fn damaged(pair: &mut Pair, seed: u64) -> Result<(), Difference> {
             false => arguments::tail(&mut random, seen),
         };
         let mut copy = log.clone();
-        pair.call(&mut copy, tail, &mut call)?;
+        let dir = arguments::handed(&mut random, &directory);
+        pair.call_over(dir, &mut copy, tail, &mut call)?;
     }
     Ok(())
 }
 
-fn grown(random: &mut Random, seed: u64) -> (Vec<u8>, Seen) {
+fn grown<'a>(random: &mut Random, directory: &'a Directory, seed: u64) -> (Vec<u8>, Seen<'a>) {
     let slots = match random.below(20) {
         0..=3 => random.below(5),
         4..=17 => 4 + random.below(20),
@@ -52,12 +56,16 @@ fn grown(random: &mut Random, seed: u64) -> (Vec<u8>, Seen) {
     };
     // Some are written before, with astray reads.
     let mix = match random.percent(25) {
-        true => mix(random).before(),
-        false => mix(random),
+        true => mix(random, directory).before(),
+        false => mix(random, directory),
     };
     let appends = slots - random.below(slots / 3 + 1);
-    let history = History::made(seed, slots as usize, appends as usize, mix);
+    let mut history = History::over(directory.clone(), seed, slots as usize, mix);
+    for _ in 0..appends {
+        history.step();
+    }
     let seen = Seen {
+        directory,
         tail: history.writer.tail as u64,
         slots,
         keys: mix.keys,
@@ -72,7 +80,7 @@ fn change(random: &mut Random, log: &mut Vec<u8>, seen: &mut Seen) {
         0..=4 if tail > 0 => damage(random, log, tail),
         5 if tail > 1 => swap(random, log, tail),
         6 if tail > 1 => copy(random, log, tail),
-        7..=9 if tail > 0 => wrong_pointer(random, log, tail),
+        7..=9 if tail > 0 => wrong_pointer(random, seen.directory, log, tail),
         10..=11 if tail > 0 => wrong_field(random, log, tail),
         12..=15 => forge(random, log, seen),
         16..=18 => wrong_header(random, log, tail),
@@ -117,7 +125,7 @@ fn two(random: &mut Random, tail: usize) -> (usize, usize) {
 }
 
 /// A header's word or pointers.
-fn wrong_pointer(random: &mut Random, log: &mut [u8], tail: usize) {
+fn wrong_pointer(random: &mut Random, directory: &Directory, log: &mut [u8], tail: usize) {
     let at = random.below(tail as u64) as usize;
     let slot = slot(log, at);
     if slot.len() < SLOT {
@@ -137,7 +145,7 @@ fn wrong_pointer(random: &mut Random, log: &mut [u8], tail: usize) {
             slot[header] |= 0x80;
             put64(slot, header + 4, random.below(at as u64 + 1));
         }
-        _ => put32(slot, header, arguments::object(random)),
+        _ => put32(slot, header, arguments::object(random, directory)),
     }
 }
 
@@ -177,31 +185,50 @@ fn forge(random: &mut Random, log: &mut [u8], seen: &mut Seen) {
         true => tail.min(slots - 1),
         false => random.below(tail as u64).min(slots as u64 - 1) as usize,
     };
-    let earlier = pass(&log[..at * SLOT], at).unwrap_or_default();
-    let (kind, number, objects, items) = any_entry(random, log, at);
-    let headers: Vec<Header> = ids(objects)
+    let directory = seen.directory;
+    let earlier = pass(&directory.bytes(), &log[..at * SLOT], at)
+        .map_or(Earlier::default(), |(_, earlier)| earlier);
+    let (kind, number, objects, items) = any_entry(random, directory, log, at);
+    let headers: Vec<Header> = places(objects)
         .take(4)
-        .map(|object| Header::made(object, at, earlier.nearest(object)))
+        .map(|place| {
+            let object = directory.objects()[place].id;
+            Header::made(object, at, earlier.nearest(place))
+        })
         .collect();
     write_slot(slot(log, at), kind, number, &headers, &items);
     seen.tail = seen.tail.max(at as u64 + 1);
 }
 
 /// An entry that may break the rules of its kind, often near to one that does not.
-fn any_entry(random: &mut Random, log: &[u8], at: usize) -> (Kind, u32, u8, Vec<u8>) {
+fn any_entry(
+    random: &mut Random,
+    directory: &Directory,
+    log: &[u8],
+    at: usize,
+) -> (Kind, u32, u64, Vec<u8>) {
+    let records = directory.objects().len() as u64;
     let near = random.below(at.max(1) as u64) as usize;
     let (number, objects) = match at {
-        0 => (random.below(3) as u32, 1 << random.below(8)),
-        _ => (slot_at(log, near).number(), objects_at(log, near)),
+        0 => (random.below(3) as u32, 1 << random.below(records)),
+        _ => (
+            slot_at(log, near).number(),
+            objects_at(directory, log, near),
+        ),
     };
     let objects = match random.below(4) {
-        0 => objects ^ 1 << random.below(8),
+        0 => objects ^ 1 << random.below(records),
         _ => objects,
     };
     let count = random.below(4);
-    let id = || ids(objects).next().unwrap_or(1);
+    let id = || directory.ids(objects).next().unwrap_or(1);
     match random.below(4) {
-        0 => (Kind::Update, number, objects, writes(random, objects)),
+        0 => (
+            Kind::Update,
+            number,
+            objects,
+            writes(random, directory, objects),
+        ),
         1 => {
             let reads =
                 (0..count).map(|place| read(id(), place as u32, random.below(at as u64 + 2)));
@@ -226,24 +253,26 @@ fn any_entry(random: &mut Random, log: &[u8], at: usize) -> (Kind, u32, u8, Vec<
             });
             let items = saved.flat_map(|saved| saved.bytes()).collect();
             let number = if random.percent(90) { 0 } else { number };
-            (Kind::Checkpoint, number, 1 << (id() - 1), items)
+            (Kind::Checkpoint, number, directory.set_of(id()), items)
         }
     }
 }
 
 /// The header objects of a slot of any bytes.
-fn objects_at(log: &[u8], at: usize) -> u8 {
+fn objects_at(directory: &Directory, log: &[u8], at: usize) -> u64 {
     let slot = slot_at(log, at);
     match slot.header_count() <= 4 {
-        true => slot.objects(),
+        true => slot
+            .headers()
+            .fold(0, |set, header| set | directory.set_of(header.object)),
         false => 1,
     }
 }
 
 /// A write of each of the objects, and sometimes of one more.
-fn writes(random: &mut Random, objects: u8) -> Vec<u8> {
+fn writes(random: &mut Random, directory: &Directory, objects: u64) -> Vec<u8> {
     let mut items = Vec::new();
-    for object in ids(objects) {
+    for object in directory.ids(objects) {
         let write = match random.below(5) {
             0 => remove(object, 0),
             _ => put(object, random.below(2) as u32, random.below(5) as u32),
@@ -251,7 +280,7 @@ fn writes(random: &mut Random, objects: u8) -> Vec<u8> {
         items.extend(write.bytes());
     }
     if random.percent(10) {
-        items.extend(put(arguments::object(random), 0, 1).bytes());
+        items.extend(put(arguments::object(random, directory), 0, 1).bytes());
     }
     items
 }

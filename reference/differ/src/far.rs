@@ -1,9 +1,10 @@
 //! Logs of over 65,536 entries, with headers of both formats, and logs at the most slots. Few, since each call checks
 //! the whole log.
 
-use reference::append::Request;
+use reference::append::{Request, Writer};
+use reference::directory::{bytes_of, the_eight, Directory, HIGHEST_ID, HIGHEST_KEY};
 use reference::log::scan;
-use reference::objects::set_of;
+use reference::objects::{set_of, Object, Structure};
 use reference::random::{put_in_order, History, Mix, Random};
 use reference::replica::{version_at, Record};
 use reference::sample::{commit, put, read, table_of, update};
@@ -25,6 +26,7 @@ pub fn far(pair: &mut Pair, seed: u64) -> Result<(), Difference> {
     let mut random = Random::new(seed ^ 0x5EED_0003);
     let (mut log, tail) = grown(&mut random, seed);
     let seen = Seen {
+        directory: the_eight(),
         tail,
         slots: (log.len() / SLOT) as u64,
         keys: 3,
@@ -347,6 +349,94 @@ fn read_and_save(
         object,
     });
     pair.call(&mut copy, tail, &mut call)?;
+    Ok(())
+}
+
+/// Directories other than the eight, where the library takes one: far headers of the highest id, and a map with all keys there can
+/// be, of which 40,000 are written in one play.
+pub fn directed(pair: &mut Pair, seed: u64) -> Result<(), Difference> {
+    far_id(pair, seed)?;
+    many_keys(pair, seed)
+}
+
+fn directory_of(highest_keys: [(u32, u32); 2]) -> Directory {
+    let objects = highest_keys.map(|(id, highest_key)| Object {
+        id,
+        structure: Structure::Map,
+        highest_key,
+        marked: false,
+    });
+    Directory::of(&bytes_of(&objects)).expect("a directory without fault")
+}
+
+fn far_id(pair: &mut Pair, seed: u64) -> Result<(), Difference> {
+    pair.begin("far id", seed);
+    let directory = directory_of([(20, 9), (HIGHEST_ID, HIGHEST_KEY)]);
+    pair.dir = directory.bytes();
+    let mut writer = Writer::over(directory, 65_540);
+    let far = |value: u32| update(0, &[put(20, 1, value), put(HIGHEST_ID, HIGHEST_KEY, value)]);
+    writer.append(&far(1));
+    while writer.tail < 65_535 + (seed % 2) as usize {
+        writer.append(&update(0, &[put(20, 0, 1)]));
+    }
+    let (mut log, at) = (writer.log, writer.tail as u64);
+    pair.call(&mut log, at, &mut Call::Append(far(2)))?;
+    let tail = at + 1;
+    pair.call(&mut log, tail, &mut Call::Check)?;
+    for place in 0..3 {
+        let mut call = Call::Header { offset: at, place };
+        pair.call(&mut log, tail, &mut call)?;
+    }
+    for object in [HIGHEST_ID, HIGHEST_ID | 1 << 31] {
+        let from = 1;
+        pair.call(&mut log, tail, &mut Call::StreamNext { object, from })?;
+    }
+    lists(pair, &mut log, tail, HIGHEST_ID, &[0, at as usize])?;
+    let scratch = vec![0xD5; 4 * CELL];
+    pair.call(&mut log, tail, &mut Call::Audit { scratch })?;
+    Ok(())
+}
+
+fn many_keys(pair: &mut Pair, seed: u64) -> Result<(), Difference> {
+    pair.begin("many keys", seed);
+    let mut random = Random::new(seed ^ 0x5EED_0006);
+    let directory = directory_of([(3, 5), (9, HIGHEST_KEY)]);
+    pair.dir = directory.bytes();
+    let mut writer = Writer::over(directory, 4_000);
+    while writer.tail < 4_000 {
+        let value = writer.tail as u32;
+        let mut writes = vec![put(3, value % 6, value)];
+        writes.extend((0..10).map(|_| put(9, random.number() as u32 % u32::MAX, value)));
+        writer.append(&update(0, &writes));
+    }
+    let (mut log, tail) = (writer.log, 4_000);
+    for rows in [40_010, 39_000] {
+        let scratch = vec![0xD5; rows * CELL + 5];
+        pair.call(&mut log, tail, &mut Call::Audit { scratch })?;
+    }
+    let mut record = Record {
+        hosted: 3,
+        position: 0,
+        count: 0,
+    };
+    let mut table = vec![0xAA; 40_010 * CELL];
+    for stop in [1, 1 + random.below(3_000), 3_999, tail] {
+        let mut call = Call::Play {
+            record,
+            table,
+            stop,
+        };
+        let said = pair.call(&mut log, tail, &mut call)?;
+        table = match call {
+            Call::Play { table, .. } => table,
+            _ => Vec::new(),
+        };
+        record.position = said.out[1];
+        record.count = said.out[2];
+    }
+    for object in [3, 9] {
+        read_and_save(pair, &mut log, tail, record, table.clone(), object)?;
+    }
     Ok(())
 }
 

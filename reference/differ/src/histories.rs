@@ -2,6 +2,7 @@
 //! other calls are made in between.
 
 use reference::append::Request;
+use reference::directory::{the_eight, Directory};
 use reference::random::{broken, put_in_order, History, Mix, Random};
 use reference::replica::Record;
 use reference::slot::{slot_at, Kind, SLOT};
@@ -53,12 +54,14 @@ pub fn long_history(pair: &mut Pair, seed: u64) -> Result<(), Difference> {
 
 impl<'a> Case<'a> {
     fn new(pair: &'a mut Pair, mut random: Random, seed: u64, slots: usize) -> Case<'a> {
-        let mix = mix(&mut random);
+        let directory = arguments::directory(&mut random);
+        pair.dir = directory.bytes();
+        let mix = mix(&mut random, &directory);
         let fill = random.pick(&[0, 0x5A, 0xFF]).unwrap_or(0);
         Case {
             pair,
             random,
-            history: History::new(seed, slots, mix),
+            history: History::over(directory, seed, slots, mix),
             log: vec![fill; slots * SLOT],
             replicas: Vec::new(),
         }
@@ -107,8 +110,13 @@ const STRIDES: [u32; 12] = [
     0x0101_0101,
 ];
 
-pub fn mix(random: &mut Random) -> Mix {
-    let mix = kind(random);
+/// What a history over a directory is like.
+pub fn mix(random: &mut Random, directory: &Directory) -> Mix {
+    let mut mix = kind(random);
+    if directory != the_eight() {
+        let most = u64::from(mix.objects.count_ones());
+        mix = mix.over(directory, random, most);
+    }
     Mix {
         stride: random.pick(&STRIDES).unwrap_or(1),
         ..mix
@@ -139,8 +147,13 @@ impl Case<'_> {
         self.history.writer.tail as u64
     }
 
-    fn seen(&self) -> Seen {
+    fn directory(&self) -> &Directory {
+        &self.history.writer.directory
+    }
+
+    fn seen(&self) -> Seen<'_> {
         Seen {
+            directory: self.directory(),
             tail: self.tail(),
             slots: (self.log.len() / SLOT) as u64,
             keys: self.history.mix.keys,
@@ -151,8 +164,9 @@ impl Case<'_> {
     fn append(&mut self) -> Result<(), Difference> {
         let mut request = self.history.request();
         if self.random.percent(self.history.mix.broken) {
-            let tail = self.history.writer.tail;
-            broken(&mut self.history.random, &mut request, tail);
+            let writer = &self.history.writer;
+            let random = &mut self.history.random;
+            broken(&writer.directory, random, &mut request, writer.tail);
         }
         if self.random.percent(7) {
             request = self.checkpoint().unwrap_or(request);
@@ -176,7 +190,7 @@ impl Case<'_> {
 
     fn checkpoint(&mut self) -> Option<Request> {
         let place = self.random.below(self.replicas.len() as u64) as usize;
-        let object = arguments::object(&mut self.random);
+        let object = arguments::object(&mut self.random, &self.history.writer.directory);
         self.replicas.get(place).map(|replica| Request::Checkpoint {
             record: replica.record,
             table: replica.table.clone(),
@@ -189,15 +203,18 @@ impl Case<'_> {
         if self.random.percent(45) {
             return self.replica();
         }
+        let mut random = self.random.clone();
         let seen = self.seen();
-        let place = self.random.below(NAMES.len() as u64) as usize;
-        let mut call = arguments::call(&mut self.random, seen, place);
-        let tail = arguments::tail(&mut self.random, seen);
+        let place = random.below(NAMES.len() as u64) as usize;
+        let mut call = arguments::call(&mut random, seen, place);
+        let tail = arguments::tail(&mut random, seen);
+        let dir = arguments::handed(&mut random, seen.directory);
+        self.random = random;
         if matches!(call, Call::Append(_)) {
             let mut copy = self.log.clone();
-            self.pair.call(&mut copy, tail, &mut call)?;
+            self.pair.call_over(dir, &mut copy, tail, &mut call)?;
         } else {
-            self.pair.call(&mut self.log, tail, &mut call)?;
+            self.pair.call_over(dir, &mut self.log, tail, &mut call)?;
         }
         Ok(())
     }
@@ -224,7 +241,7 @@ impl Case<'_> {
         let mut call = match offset {
             Some(offset) if self.random.percent(60) => Call::OpenCheckpoint { offset, table },
             _ => {
-                let hosted = arguments::hosted(&mut self.random);
+                let hosted = arguments::hosted(&mut self.random, &self.history.writer.directory);
                 let mut call = Call::OpenFresh { hosted };
                 let said = self.pair.call(&mut self.log, 0, &mut call)?;
                 self.keep(said.number, said.out, table);
@@ -258,7 +275,8 @@ impl Case<'_> {
     /// of order.
     fn play(&mut self, mut replica: Replica) -> Result<(), Difference> {
         if self.random.percent(12) {
-            tamper(&mut self.random, &mut replica);
+            let directory = &self.history.writer.directory;
+            tamper(&mut self.random, directory, &mut replica);
         }
         if self.random.percent(8) {
             self.out_of_order(&replica)?;
@@ -294,7 +312,7 @@ impl Case<'_> {
             return Ok(());
         };
         let tail = self.tail();
-        let object = arguments::object(&mut self.random);
+        let object = arguments::object(&mut self.random, &self.history.writer.directory);
         let mut calls = [
             Call::Play {
                 record,
@@ -323,12 +341,17 @@ impl Case<'_> {
     fn read(&mut self, replica: Replica) -> Result<(), Difference> {
         let mut table = replica.table;
         for _ in 0..4 {
-            let object = arguments::object(&mut self.random);
+            let object = arguments::object(&mut self.random, &self.history.writer.directory);
             let mut call = Call::ReadCell {
                 record: replica.record,
                 table,
                 object,
-                key: arguments::key(&mut self.random, object, self.history.mix.keys),
+                key: arguments::key(
+                    &mut self.random,
+                    &self.history.writer.directory,
+                    object,
+                    self.history.mix.keys,
+                ),
             };
             self.pair.call(&mut self.log, 0, &mut call)?;
             table = match call {
@@ -345,7 +368,7 @@ impl Case<'_> {
 }
 
 /// Changes a row's value, present field or version, or adds a row that the replica does not have; the rows still ascend.
-fn tamper(random: &mut Random, replica: &mut Replica) {
+fn tamper(random: &mut Random, directory: &Directory, replica: &mut Replica) {
     let count = replica.record.count as usize;
     if count == 0 {
         return;
@@ -353,7 +376,7 @@ fn tamper(random: &mut Random, replica: &mut Replica) {
     let place = random.below(count as u64) as usize;
     let given = row(&replica.table, place);
     match random.below(4) {
-        0..=1 if count < capacity(&replica.table) => add(random, replica),
+        0..=1 if count < capacity(&replica.table) => add(random, directory, replica),
         2 => {
             let present = random.below(4) as u32;
             put_row(&mut replica.table, place, Row { present, ..given });
@@ -370,13 +393,13 @@ fn tamper(random: &mut Random, replica: &mut Replica) {
 }
 
 /// One row more, of any object and key, in its place.
-fn add(random: &mut Random, replica: &mut Replica) {
+fn add(random: &mut Random, directory: &Directory, replica: &mut Replica) {
     let count = replica.record.count as usize;
-    let object = arguments::object(random);
+    let object = arguments::object(random, directory);
     let mut all: Vec<Row> = rows(&replica.table, count).collect();
     all.push(Row {
         object,
-        key: arguments::key(random, object, 3),
+        key: arguments::key(random, directory, object, 3),
         value: 77,
         present: random.below(4) as u32,
         version: random.number(),
@@ -407,7 +430,7 @@ fn disordered(random: &mut Random, replica: &Replica) -> Option<(Record, Vec<u8>
 
 fn record_of(out: [u64; 8]) -> Record {
     Record {
-        hosted: out[0] as u8,
+        hosted: out[0],
         position: out[1],
         count: out[2],
     }

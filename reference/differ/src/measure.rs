@@ -2,14 +2,15 @@
 
 use reference::append::Request;
 use reference::boundary::{self, Said};
-use reference::objects::OBJECTS;
-use reference::replica::Record;
-use reference::sample::{played, put, read, read_bytes, write_bytes};
+use reference::directory::{eight, Directory};
+use reference::replica::{play, Record};
+use reference::sample::{read, read_bytes};
 use reference::slot::{Read, MOST_ITEMS, SLOT};
 use reference::table::{rows, CELL};
 
 use crate::library::{
-    stocklog_append_commit, stocklog_append_update, stocklog_audit, stocklog_check, stocklog_play,
+    stocklog_append_commit, stocklog_append_update, stocklog_audit, stocklog_check,
+    stocklog_open_fresh, stocklog_play, Hosted,
 };
 use crate::workload::Made;
 
@@ -63,6 +64,7 @@ fn now() -> f64 {
 
 /// What the calls are given.
 struct Lent {
+    dir: Vec<u8>,
     log: Vec<u8>,
     tail: usize,
     table: Vec<u8>,
@@ -75,22 +77,19 @@ struct Lent {
 
 /// Nanoseconds of one call, the least of those made in so many nanoseconds or of three, and its answer in words.
 pub fn measured(call: &str, made: Made, side: Side, time: f64) -> (f64, String) {
-    let cells: usize = OBJECTS
-        .iter()
-        .map(|object| object.highest_key as usize + 1)
-        .sum();
-    let (record, rows) = made.replica.unwrap_or((FRESH, Vec::new()));
+    let (record, rows) = made.replica.unwrap_or((fresh(&made.dir), Vec::new()));
     let mut lent = Lent {
+        dir: made.dir,
         tail: made.log.len() / SLOT,
         log: made.log,
-        table: vec![0; cells * CELL],
+        table: vec![0; made.cells * CELL],
         number: made.number,
-        items: write_bytes(&[put(2, 7, 43), put(5, 77, 1)]),
+        items: made.items,
         reads: made.reads.unwrap_or_default(),
         record,
     };
     if call == "commit" && lent.reads.is_empty() {
-        lent.reads = honest(&mut lent, cells);
+        lent.reads = honest(&mut lent);
     }
     let mut least = f64::MAX;
     let mut whole = 0.0;
@@ -114,16 +113,17 @@ pub fn measured(call: &str, made: Made, side: Side, time: f64) -> (f64, String) 
 
 /// Puts an update of the number in the last slot but one, for a commit in the last; its reads are of 12 cells, with the versions that
 /// a replica of all objects shows there.
-fn honest(lent: &mut Lent, cells: usize) -> Vec<u8> {
+fn honest(lent: &mut Lent) -> Vec<u8> {
     let Some(at) = lent.tail.checked_sub(2) else {
         return Vec::new();
     };
-    let (record, table) = played(&lent.log, at, 0xFF, cells);
+    let (dir, mut table) = (lent.dir.clone(), lent.table.clone());
+    let (_, record) = play(&dir, &lent.log, at, fresh(&dir), &mut table, at as u64);
     let request = Request::Update {
         number: lent.number,
         items: lent.items.clone(),
     };
-    boundary::append(&mut lent.log, at, &request);
+    boundary::append(&dir, &mut lent.log, at, &request);
     let step = (record.count as usize / MOST_ITEMS).max(1);
     let shown: Vec<Read> = rows(&table, record.count as usize)
         .step_by(step)
@@ -148,11 +148,24 @@ fn shown(said: Option<Said>, lent: &Lent) -> String {
     }
 }
 
-const FRESH: Record = Record {
-    hosted: 0xFF,
-    position: 0,
-    count: 0,
-};
+/// A replica of all objects, with no cells.
+fn fresh(dir: &[u8]) -> Record {
+    Record {
+        hosted: Directory::of(dir).map_or(0, |directory| directory.everything()),
+        position: 0,
+        count: 0,
+    }
+}
+
+/// Whether the library takes a directory. One that does not takes its length for an address, which ends the process: ask in one of
+/// its own.
+pub fn takes_directory() -> bool {
+    let mut out = [0; 4];
+    // The pointers are to memory of the length beside them, if the library takes them as such.
+    let number =
+        unsafe { stocklog_open_fresh(eight().as_ptr(), eight().len(), 1, out.as_mut_ptr()) };
+    number == 0 && out == [1, 0, 0, 0]
+}
 
 fn call_made(call: &str, side: Side, lent: &mut Lent) -> Said {
     match side {
@@ -165,28 +178,36 @@ fn call_made(call: &str, side: Side, lent: &mut Lent) -> Said {
 fn by_reference(call: &str, lent: &mut Lent) -> Said {
     let tail = lent.tail;
     match call {
-        "check" => boundary::check(&lent.log, tail),
+        "check" => boundary::check(&lent.dir, &lent.log, tail),
         "append" => {
             let request = Request::Update {
                 number: lent.number,
                 items: lent.items.clone(),
             };
-            boundary::append(&mut lent.log, tail - 1, &request)
+            boundary::append(&lent.dir, &mut lent.log, tail - 1, &request)
         }
         "commit" => {
             let request = Request::Commit {
                 number: lent.number,
                 reads: lent.reads.clone(),
             };
-            boundary::append(&mut lent.log, tail - 1, &request)
+            boundary::append(&lent.dir, &mut lent.log, tail - 1, &request)
         }
-        "play" => boundary::play(&lent.log, tail, lent.record, &mut lent.table, tail as u64),
-        _ => boundary::audit(&lent.log, tail, &mut lent.table),
+        "play" => boundary::play(
+            &lent.dir,
+            &lent.log,
+            tail,
+            lent.record,
+            &mut lent.table,
+            tail as u64,
+        ),
+        _ => boundary::audit(&lent.dir, &lent.log, tail, &mut lent.table),
     }
 }
 
 fn by_library(call: &str, lent: &mut Lent) -> Said {
     let mut out = [0; 8];
+    let (dir, dir_len) = (lent.dir.as_ptr(), lent.dir.len());
     let (log, log_len) = (lent.log.as_mut_ptr(), lent.log.len());
     let (table, table_len) = (lent.table.as_mut_ptr(), lent.table.len());
     let tail = lent.tail as u64;
@@ -194,20 +215,42 @@ fn by_library(call: &str, lent: &mut Lent) -> Said {
     // Every pointer is to memory of the length beside it, which nobody else uses during the call.
     let number = unsafe {
         match call {
-            "check" => stocklog_check(log, log_len, tail, to),
+            "check" => stocklog_check(dir, dir_len, log, log_len, tail, to),
             "append" => {
                 let (items, items_len) = (lent.items.as_ptr(), lent.items.len());
-                stocklog_append_update(log, log_len, tail - 1, lent.number, items, items_len, to)
+                stocklog_append_update(
+                    dir,
+                    dir_len,
+                    log,
+                    log_len,
+                    tail - 1,
+                    lent.number,
+                    items,
+                    items_len,
+                    to,
+                )
             }
             "commit" => {
                 let (reads, reads_len) = (lent.reads.as_ptr(), lent.reads.len());
-                stocklog_append_commit(log, log_len, tail - 1, lent.number, reads, reads_len, to)
+                stocklog_append_commit(
+                    dir,
+                    dir_len,
+                    log,
+                    log_len,
+                    tail - 1,
+                    lent.number,
+                    reads,
+                    reads_len,
+                    to,
+                )
             }
             "play" => stocklog_play(
+                dir,
+                dir_len,
                 log,
                 log_len,
                 tail,
-                lent.record.hosted,
+                lent.record.hosted as Hosted,
                 lent.record.position,
                 lent.record.count,
                 table,
@@ -215,7 +258,7 @@ fn by_library(call: &str, lent: &mut Lent) -> Said {
                 tail,
                 to,
             ),
-            _ => stocklog_audit(log, log_len, tail, table, table_len, to),
+            _ => stocklog_audit(dir, dir_len, log, log_len, tail, table, table_len, to),
         }
     };
     Said { number, out }

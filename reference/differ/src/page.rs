@@ -60,7 +60,21 @@ pub fn appends(call: &str, rows: &[Row], columns: &[Column]) -> String {
     text
 }
 
-/// The lines of the plot, which leaves the commit and the landing before out.
+/// The tables of the logs over sparse ids, each with its name.
+pub fn sparse(tables: &[(&str, String)]) -> String {
+    let mut text = "\
+The same calls on logs over a directory of 64 objects, whose ids are spread from 1 to 2,147,483,647: 16 maps of which 12,500 keys are in\n\
+use, 32 of 12 keys, 16 registers. The keys of a map are spread over all that there are. A log begins with plain updates of 12 new cells\n\
+each, 200,000 in all, or with as many as three quarters of it hold, or half. Then come entries as above; or an update for each\n\
+of the small objects, and checkpoints of them in turn, each of all its cells.\n"
+        .to_string();
+    for (name, table) in tables {
+        text += &format!("\n{name}:\n\n{table}");
+    }
+    text
+}
+
+/// The lines of the plot, which leaves the commit, the landing before and other directories out.
 pub fn lines(rows: &[Row], columns: &[Column]) -> Vec<Line> {
     let mut lines = Vec::new();
     let plotted = CALLS.into_iter().filter(|call| *call != "commit");

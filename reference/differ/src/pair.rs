@@ -3,8 +3,9 @@
 use std::fs;
 
 use reference::boundary::Said;
+use reference::directory::eight;
 
-use crate::calls::{by_reference, Call, Library};
+use crate::calls::{by_reference, hex, Call, Library};
 use crate::cover::Cover;
 
 /// A difference, with all that is needed to see it again.
@@ -17,6 +18,8 @@ pub struct Pair {
     pub cover: Cover,
     /// Prints each call before it is made.
     pub trace: bool,
+    /// The directory that calls are handed.
+    pub dir: Vec<u8>,
     library: Library,
     part: &'static str,
     seed: u64,
@@ -28,6 +31,7 @@ impl Pair {
         Pair {
             cover: Cover::default(),
             trace,
+            dir: eight().to_vec(),
             library: Library::default(),
             part: "",
             seed: 0,
@@ -35,8 +39,9 @@ impl Pair {
         }
     }
 
-    /// A new case: what it is called and the seed that makes it.
+    /// A new case, of the eight: what it is called and the seed that makes it.
     pub fn begin(&mut self, part: &'static str, seed: u64) {
+        self.dir = eight().to_vec();
         self.part = part;
         self.seed = seed;
         self.calls = 0;
@@ -49,25 +54,40 @@ impl Pair {
             eprintln!("{}", self.place(log, tail, call));
         }
         let before = ((log.len() <= KEPT).then(|| log.to_vec()), call.clone());
-        self.library.call(log, tail, call);
-        let said = by_reference(log, tail, call);
-        if let Some(text) = self.library.difference(&said, log, call) {
+        self.library.call(&self.dir, log, tail, call);
+        let said = by_reference(&self.dir, log, tail, call);
+        if let Some(text) = self.library.difference(&said, &self.dir, log, call) {
             let kept = before.0.map_or(String::new(), |bytes| self.keep(&bytes));
             let place = self.place(log, tail, &before.1);
             return Err(Difference(format!("{place}\n{text}\n{kept}")));
         }
-        self.cover.note(log, tail, &before.1, &said);
+        self.cover.note(&self.dir, log, tail, &before.1, &said);
         Ok(said)
+    }
+
+    /// Makes one call with another directory.
+    pub fn call_over(
+        &mut self,
+        dir: Vec<u8>,
+        log: &mut [u8],
+        tail: u64,
+        call: &mut Call,
+    ) -> Result<Said, Difference> {
+        let own = std::mem::replace(&mut self.dir, dir);
+        let said = self.call(log, tail, call);
+        self.dir = own;
+        said
     }
 
     /// The case, the call and its arguments.
     fn place(&self, log: &[u8], tail: u64, call: &Call) -> String {
         format!(
-            "{} of seed {}, call {}: stocklog_{}\nlog of {} bytes, tail {tail}; {}",
+            "{} of seed {}, call {}: stocklog_{}\ndirectory {}\nlog of {} bytes, tail {tail}; {}",
             self.part,
             self.seed,
             self.calls,
             call.name(),
+            hex(&self.dir),
             log.len(),
             call.shown()
         )

@@ -9,6 +9,7 @@ use std::{env, thread};
 use crate::measure::Side;
 
 /// What is asked of a run.
+#[derive(Clone)]
 pub struct Asked {
     pub sizes: Vec<usize>,
     /// Seconds that one point may take.

@@ -1,22 +1,51 @@
 //! A log as the depots make one: plain updates, transactions of 1 to 4 updates with 1 to 4 reads, mostly fresh,
-//! decisions where a marked object is read, and now and then a checkpoint of an object with at most 12 cells.
+//! decisions where a marked object is read, and now and then a checkpoint of an object with at most 12 cells. Also over another
+//! directory, on which such a log can go on from one that is there.
 
 use std::collections::VecDeque;
 
 use reference::append::{Request, Writer};
-use reference::objects::{is_marked, set_of};
+use reference::directory::{eight, the_eight, Directory};
+use reference::objects::objects;
 use reference::random::Random;
 use reference::replica::Record;
 use reference::run::Run;
 use reference::sample::{
-    append_before, commit, decision, put, read, remove, rows_of, table_of, update,
+    append_before, commit, decision, put, read, remove, rows_of, table_of, update, write_bytes,
 };
-use reference::slot::{Read, Write, ABORT, COMMIT};
+use reference::slot::{Read, Write, ABORT, COMMIT, SLOT};
 
-/// How many keys of each object are in use: thousands of patients and orders, a small van.
-const KEYS: [u64; 8] = [6000, 500, 500, 12, 8000, 1, 1, 1];
-/// How often each object is written, in parts of 100.
-const SHARES: [u64; 8] = [30, 20, 12, 6, 24, 4, 2, 2];
+/// What is in use of an object of the directory.
+#[derive(Clone, Copy, Debug)]
+pub struct Used {
+    /// How many keys, and how far each is from the next.
+    pub keys: u64,
+    pub step: u32,
+    /// How often it is written, beside the others' shares.
+    pub share: u64,
+}
+
+const fn used(keys: u64, share: u64) -> Used {
+    Used {
+        keys,
+        step: 1,
+        share,
+    }
+}
+
+/// Of the eight, by place: thousands of patients and orders, a small van; the shares are parts of 100.
+const OF_EIGHT: [Used; 8] = [
+    used(6000, 30),
+    used(500, 20),
+    used(500, 12),
+    used(12, 6),
+    used(8000, 24),
+    used(1, 4),
+    used(1, 2),
+    used(1, 2),
+];
+/// The van and the registers.
+const SAVED: [u32; 4] = [4, 6, 7, 8];
 
 struct Open {
     number: u32,
@@ -26,6 +55,12 @@ struct Open {
 
 /// A log to measure calls on.
 pub struct Made {
+    /// The directory that is handed to them.
+    pub dir: Vec<u8>,
+    /// How many rows their table has.
+    pub cells: usize,
+    /// The writes of the update with which the append is measured.
+    pub items: Vec<u8>,
     /// All of its slots are used.
     pub log: Vec<u8>,
     /// The number of the update with which the append is measured, and of the commit.
@@ -36,43 +71,80 @@ pub struct Made {
     pub replica: Option<(Record, Vec<u8>)>,
 }
 
+impl Made {
+    /// On a log of the eight.
+    pub fn of_eight(log: Vec<u8>, number: u32) -> Made {
+        let cells = objects()
+            .iter()
+            .map(|object| object.highest_key as usize + 1);
+        Made {
+            dir: eight().to_vec(),
+            cells: cells.sum(),
+            items: write_bytes(&[put(2, 7, 43), put(5, 77, 1)]),
+            log,
+            number,
+            reads: None,
+            replica: None,
+        }
+    }
+}
+
 /// A growing log.
-struct Depots {
+pub struct Depots {
     random: Random,
     stride: u32,
-    writer: Writer,
-    run: Run,
+    pub writer: Writer,
+    pub run: Run,
+    /// By place in the directory.
+    used: Vec<Used>,
+    /// Objects of which checkpoints are made.
+    saved: Vec<u32>,
     open: VecDeque<Open>,
-    last_number: u32,
+    pub last_number: u32,
     owed: VecDeque<u64>,
 }
 
-/// A log of so many slots, written before: its stale reads are half a version, which mostly is astray. Transaction numbers are the multiples of the stride; the append has one that is new.
+/// A log of so many slots, written before: its stale reads are half a version, which mostly is astray. Transaction numbers are the
+/// multiples of the stride; the append has one that is new.
 pub fn workload(slots: usize, seed: u64, stride: u32) -> Made {
-    let mut depots = Depots {
-        random: Random::new(seed),
-        stride,
-        writer: Writer::new(slots),
-        run: Run::new(),
-        open: VecDeque::new(),
-        last_number: 0,
-        owed: VecDeque::new(),
-    };
-    while depots.writer.tail < slots {
-        let request = depots.next();
-        let answer = append_before(&mut depots.writer, &request);
-        assert!(answer.is_done(), "{request:?} is refused: {answer:?}");
-        depots.run.feed(&request, false);
-    }
-    Made {
-        log: depots.writer.log,
-        number: depots.last_number + stride,
-        reads: None,
-        replica: None,
-    }
+    let saved = SAVED.to_vec();
+    let mut depots = Depots::over(the_eight().clone(), slots, OF_EIGHT.to_vec(), saved);
+    depots.random = Random::new(seed);
+    depots.stride = stride;
+    depots.fill();
+    Made::of_eight(depots.writer.log, depots.last_number + stride)
 }
 
 impl Depots {
+    /// An empty log of so many slots.
+    pub fn over(directory: Directory, slots: usize, used: Vec<Used>, saved: Vec<u32>) -> Depots {
+        Depots {
+            random: Random::new(1),
+            stride: 1,
+            writer: Writer::over(directory, slots),
+            run: Run::new(),
+            used,
+            saved,
+            open: VecDeque::new(),
+            last_number: 0,
+            owed: VecDeque::new(),
+        }
+    }
+
+    pub fn append(&mut self, request: &Request) {
+        let answer = append_before(&mut self.writer, request);
+        assert!(answer.is_done(), "{request:?} is refused: {answer:?}");
+        self.run.feed(request, false);
+    }
+
+    /// Goes on until no slot is free.
+    pub fn fill(&mut self) {
+        while self.writer.tail * SLOT < self.writer.log.len() {
+            let request = self.next();
+            self.append(&request);
+        }
+    }
+
     fn next(&mut self) -> Request {
         if !self.owed.is_empty() && self.random.percent(60) {
             return self.decision();
@@ -92,19 +164,23 @@ impl Depots {
     }
 
     fn object(&mut self) -> u32 {
-        let mut part = self.random.below(100);
-        for (place, share) in SHARES.iter().enumerate() {
-            if part < *share {
-                return place as u32 + 1;
+        let mut part = self
+            .random
+            .below(self.used.iter().map(|used| used.share).sum());
+        let objects = self.writer.directory.objects();
+        for (used, object) in self.used.iter().zip(objects) {
+            if part < used.share {
+                return object.id;
             }
-            part -= share;
+            part -= used.share;
         }
-        8
+        objects[0].id
     }
 
     fn cell(&mut self, object: u32) -> (u32, u32) {
-        let keys = KEYS[object as usize - 1];
-        (object, self.random.below(keys) as u32)
+        let place = self.writer.directory.place(object).unwrap_or(0);
+        let used = self.used[place];
+        (object, self.random.below(used.keys) as u32 * used.step)
     }
 
     /// A write of any object, or of one of these.
@@ -153,7 +229,8 @@ impl Depots {
         }
         let number = self.open.pop_front().map_or(1, |open| open.number);
         let reads = self.reads();
-        if reads.iter().any(|read| is_marked(read.object)) {
+        let directory = &self.writer.directory;
+        if reads.iter().any(|read| directory.is_marked(read.object)) {
             self.owed.push_back(self.writer.tail as u64);
         }
         commit(number, &reads)
@@ -183,13 +260,14 @@ impl Depots {
         decision(offset, if commits { COMMIT } else { ABORT })
     }
 
-    /// The van or a register.
     fn checkpoint(&mut self) -> Request {
-        let object = self.random.pick(&[4, 6, 7, 8]).unwrap_or(4);
-        let rows = rows_of(&self.run, set_of(object));
+        let object = self.random.pick(&self.saved).unwrap_or(1);
+        let directory = &self.writer.directory;
+        let hosted = directory.set_of(object);
+        let rows = rows_of(directory, &self.run, hosted);
         Request::Checkpoint {
             record: Record {
-                hosted: set_of(object),
+                hosted,
                 position: self.writer.tail as u64,
                 count: rows.len() as u64,
             },

@@ -3,16 +3,17 @@
 //! logs on which a commit has much to look at, whose commit is measured beside their check.
 
 use reference::append::{Request, Writer};
-use reference::objects::{set_of, OBJECTS};
+use reference::objects::{objects, set_of};
 use reference::replica::{version_at, Record};
 use reference::sample::{commit, put, read, read_bytes, table_of, update};
 use reference::slot::{Read, Write, MOST_ITEMS};
 use reference::table::Row;
 
+use crate::sparse::SPARSE;
 use crate::workload::Made;
 
 /// A log of so many slots, all used.
-type Maker = fn(usize) -> Made;
+pub type Maker = fn(usize) -> Made;
 
 /// A log, by its name; one that is made to be slow has another that it is measured beside.
 pub struct Log {
@@ -21,7 +22,7 @@ pub struct Log {
     maker: Maker,
 }
 
-const fn plain(name: &'static str, maker: Maker) -> Log {
+pub const fn plain(name: &'static str, maker: Maker) -> Log {
     Log {
         name,
         beside: None,
@@ -128,7 +129,8 @@ pub const COMMITS: [Log; 3] = [
 
 /// The log of a name.
 pub fn log(name: &str, size: usize) -> Option<Made> {
-    let found = LOGS.iter().chain(&COMMITS).find(|log| log.name == name)?;
+    let mut all = LOGS.iter().chain(&COMMITS).chain(&SPARSE);
+    let found = all.find(|log| log.name == name)?;
     Some((found.maker)(size))
 }
 
@@ -155,12 +157,7 @@ impl Growing {
 
     /// The append that is measured is of an update in place of the last entry, with its number.
     fn made(self) -> Made {
-        Made {
-            log: self.writer.log,
-            number: self.number,
-            reads: None,
-            replica: None,
-        }
+        Made::of_eight(self.writer.log, self.number)
     }
 }
 
@@ -249,7 +246,7 @@ fn writes(size: usize, key: fn(u32, u32) -> u32) -> Made {
 
 /// All cells of the directory, ascending.
 fn cells() -> Vec<(u32, u32)> {
-    OBJECTS
+    objects()
         .iter()
         .flat_map(|object| (0..=object.highest_key).map(|key| (object.id, key)))
         .collect()
@@ -262,7 +259,7 @@ fn growing(size: usize, cell: fn(usize, usize) -> usize) -> Made {
     let mut log = Growing::new(size);
     let mut place = 0;
     while log.writer.tail < size {
-        let (mut writes, mut objects) = (Vec::new(), 0_u8);
+        let (mut writes, mut objects) = (Vec::new(), 0_u64);
         while writes.len() < MOST_ITEMS {
             let (object, key) = cells[cell(place % cells.len(), cells.len())];
             objects |= set_of(object);

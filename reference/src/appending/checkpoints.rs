@@ -34,7 +34,7 @@ fn base() -> [Request; 3] {
     ]
 }
 
-fn of(hosted: u8, position: u64, count: u64, table: &[u8], object: u32) -> Request {
+fn of(hosted: u64, position: u64, count: u64, table: &[u8], object: u32) -> Request {
     Request::Checkpoint {
         record: Record {
             hosted,
@@ -94,7 +94,7 @@ fn objects() -> Case {
         asking.refused(3, by_all(object, 3, &[Row::of(object, 0, Some(1), 1)]));
     }
     for object in 1..=8_u32 {
-        let others = !(1 << (object - 1)) as u8;
+        let others = 0xFF & !(1 << (object - 1));
         asking.refused(3, of(others, 3, 0, &[], object));
     }
     let highest = [9999, 499, 499, 499, 9999, 0, 0, 0];

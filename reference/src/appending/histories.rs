@@ -63,7 +63,12 @@ fn next(history: &mut History, first: usize) -> Request {
     let mut request = history.request();
     if history.random.percent(history.mix.broken) {
         let tail = history.writer.tail;
-        broken(&mut history.random, &mut request, tail);
+        broken(
+            &history.writer.directory,
+            &mut history.random,
+            &mut request,
+            tail,
+        );
     }
     request
 }

@@ -2,6 +2,7 @@
 //! from there, and cells read after each.
 
 use crate::appending::junk;
+use crate::directory::eight;
 use crate::objects::{ids, object};
 use crate::playing::{record, Case, Request};
 use crate::random::{History, Mix, Random};
@@ -80,11 +81,11 @@ fn requests(random: &mut Random, log: &[u8], tail: usize, table: &[u8]) -> Vec<R
             offset,
         };
         requests.push(at);
-        let opened = open_at(log, shown as usize, offset, &mut table).done();
+        let opened = open_at(eight(), log, shown as usize, offset, &mut table).done();
         if let Some(opened) = opened {
             let stop = opened.position + random.below(tail as u64 - opened.position + 1);
             requests.push(Request::Play { tail: whole, stop });
-            let (_, left) = play(log, tail, opened, &mut table, stop);
+            let (_, left) = play(eight(), log, tail, opened, &mut table, stop);
             requests.extend(cells(random, left.hosted, 2));
         }
     }
@@ -93,7 +94,7 @@ fn requests(random: &mut Random, log: &[u8], tail: usize, table: &[u8]) -> Vec<R
 }
 
 /// Some cells of these objects.
-fn cells(random: &mut Random, objects: u8, least: u64) -> Vec<Request> {
+fn cells(random: &mut Random, objects: u64, least: u64) -> Vec<Request> {
     let objects: Vec<u32> = ids(objects).collect();
     (0..least + random.below(2))
         .map(|_| {

@@ -3,6 +3,7 @@
 
 use crate::append;
 use crate::appending::junk;
+use crate::directory::eight;
 use crate::objects::{ids, object, set_of};
 use crate::random::{History, Mix, Random};
 use crate::replica::{play, Record};
@@ -63,13 +64,13 @@ fn grown(seed: u64) -> History {
 }
 
 /// Mostly some of the objects in use.
-fn hosted(random: &mut Random, used: u8) -> u8 {
+fn hosted(random: &mut Random, used: u64) -> u64 {
     let used: Vec<u32> = ids(used).collect();
     let one = set_of(random.pick(&used).unwrap_or(1));
     match random.below(4) {
         0 => 255,
         1 => one,
-        _ => one | random.number() as u8,
+        _ => one | random.number() & 0xFF,
     }
 }
 
@@ -89,7 +90,7 @@ fn requests(
     random: &mut Random,
     log: &[u8],
     tail: usize,
-    (hosted, used): (u8, u8),
+    (hosted, used): (u64, u64),
     table: &[u8],
 ) -> Vec<Request> {
     let mut table = table.to_vec();
@@ -99,7 +100,7 @@ fn requests(
     for turn in 0..plays {
         let (shown, stop) = next_play(random, tail as u64, at, turn + 1 == plays);
         requests.push(Request::Play { tail: shown, stop });
-        at = play(log, shown as usize, at, &mut table, stop).1;
+        at = play(eight(), log, shown as usize, at, &mut table, stop).1;
         requests.extend(cells(random, at.hosted & used));
         if random.percent(6) {
             let hosted = self::hosted(random, used);
@@ -128,7 +129,7 @@ fn next_play(random: &mut Random, tail: u64, at: Record, last: bool) -> (u32, u6
 }
 
 /// Some cells in use, mostly of these objects.
-fn cells(random: &mut Random, objects: u8) -> Vec<Request> {
+fn cells(random: &mut Random, objects: u64) -> Vec<Request> {
     let objects: Vec<u32> = ids(objects).collect();
     (0..3 + random.below(4))
         .map(|_| {

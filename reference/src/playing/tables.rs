@@ -1,7 +1,7 @@
 //! Tables that the library did not fill, and cell reading at the edges.
 
 use crate::appending::junk;
-use crate::objects::OBJECTS;
+use crate::objects::objects;
 use crate::sample::*;
 use crate::table::{row, Row};
 
@@ -243,18 +243,19 @@ fn edges_of_objects() -> Case {
 /// The highest key of each object, and the next; with a count over capacity or hosted set 0 all is 10.
 fn edges_of_keys() -> Case {
     let table = table_of(
-        &OBJECTS
-            .map(|object| {
+        &objects()
+            .iter()
+            .flat_map(|object| {
                 [
                     raw(object.id, object.highest_key, 40 + object.id, 1, 1),
                     raw(object.id, object.highest_key + 1, 1, 1, 1),
                 ]
             })
-            .concat(),
+            .collect::<Vec<_>>(),
     );
     let name = "cell reading at the highest keys";
     let mut asking = Asking::with(name, vec![], table, record(255, 3, 16));
-    for object in OBJECTS {
+    for object in objects() {
         asking.holds(object.id, object.highest_key, 40 + object.id, 1);
         asking.no_cell(object.id, object.highest_key + 1, 3);
         asking.no_cell(object.id, u32::MAX, 3);

@@ -23,7 +23,7 @@ pub fn cases() -> Vec<Case> {
     ]
 }
 
-fn bench_of(hosted: u8) -> Case {
+fn bench_of(hosted: u64) -> Case {
     let name = format!("bench log, hosted set {hosted}");
     let length = if hosted == 255 { 2400 } else { 60 };
     let mut asking = Asking::on(&name, log_of(&bench()), junk(length));

@@ -35,20 +35,22 @@ unsafe fn hand(said: Said, out: *mut u64, length: usize) -> u32 {
     said.number
 }
 
+/// Each call, with `dir` for the directory, which it takes first.
 macro_rules! calls {
-    ($($name:ident($($argument:ident: $type:ty),*) out $length:literal => $body:expr;)*) => {
+    ($dir:ident $($name:ident($($argument:ident: $type:ty),*) out $length:literal => $body:expr;)*) => {
         $(
             /// # Safety
             /// As `stocklog.h` says.
             #[no_mangle]
-            pub unsafe extern "C" fn $name($($argument: $type,)* out: *mut u64) -> u32 {
+            pub unsafe extern "C" fn $name(first: *const u8, dir_len: usize, $($argument: $type,)* out: *mut u64) -> u32 {
+                let $dir = lent(first, dir_len);
                 hand($body, out, $length)
             }
         )*
     };
 }
 
-fn record(hosted: u8, position: u64, count: u64) -> Record {
+fn record(hosted: u64, position: u64, count: u64) -> Record {
     Record {
         hosted,
         position,
@@ -57,44 +59,45 @@ fn record(hosted: u8, position: u64, count: u64) -> Record {
 }
 
 calls! {
+    dir
     stocklog_check(log: *const u8, log_len: usize, tail: u64) out 4 =>
-        boundary::check(lent(log, log_len), tail as usize);
+        boundary::check(dir, lent(log, log_len), tail as usize);
     stocklog_owed(log: *const u8, log_len: usize, tail: u64) out 4 =>
-        boundary::owed(lent(log, log_len), tail as usize);
+        boundary::owed(dir, lent(log, log_len), tail as usize);
     stocklog_entry(log: *const u8, log_len: usize, tail: u64, offset: u64) out 8 =>
-        boundary::entry(lent(log, log_len), tail as usize, offset);
+        boundary::entry(dir, lent(log, log_len), tail as usize, offset);
     stocklog_header(log: *const u8, log_len: usize, tail: u64, offset: u64, place: u32) out 4 =>
-        boundary::header(lent(log, log_len), tail as usize, offset, place);
+        boundary::header(dir, lent(log, log_len), tail as usize, offset, place);
     stocklog_items(log: *const u8, log_len: usize, tail: u64, offset: u64) out 4 =>
-        boundary::items(lent(log, log_len), tail as usize, offset);
+        boundary::items(dir, lent(log, log_len), tail as usize, offset);
     stocklog_stream_next(log: *const u8, log_len: usize, tail: u64, object: u32, from: u64) out 4 =>
-        boundary::stream_next(lent(log, log_len), tail as usize, object, from);
+        boundary::stream_next(dir, lent(log, log_len), tail as usize, object, from);
     stocklog_stream_list(log: *const u8, log_len: usize, tail: u64, object: u32, list: *mut u32, list_len: usize) out 4 =>
-        boundary::stream_list(lent(log, log_len), tail as usize, object, lent_mut(list, list_len));
+        boundary::stream_list(dir, lent(log, log_len), tail as usize, object, lent_mut(list, list_len));
     stocklog_append_update(log: *mut u8, log_len: usize, tail: u64, number: u32, items: *const u8, items_len: usize) out 4 =>
-        boundary::append(lent_mut(log, log_len), tail as usize,
+        boundary::append(dir, lent_mut(log, log_len), tail as usize,
             &Request::Update { number, items: lent(items, items_len).to_vec() });
     stocklog_append_commit(log: *mut u8, log_len: usize, tail: u64, number: u32, reads: *const u8, reads_len: usize) out 4 =>
-        boundary::append(lent_mut(log, log_len), tail as usize,
+        boundary::append(dir, lent_mut(log, log_len), tail as usize,
             &Request::Commit { number, reads: lent(reads, reads_len).to_vec() });
     stocklog_append_decision(log: *mut u8, log_len: usize, tail: u64, offset: u64, outcome: u32) out 4 =>
-        boundary::append(lent_mut(log, log_len), tail as usize, &Request::Decision { offset, outcome });
-    stocklog_append_checkpoint(log: *mut u8, log_len: usize, tail: u64, hosted: u8, position: u64, count: u64,
+        boundary::append(dir, lent_mut(log, log_len), tail as usize, &Request::Decision { offset, outcome });
+    stocklog_append_checkpoint(log: *mut u8, log_len: usize, tail: u64, hosted: u64, position: u64, count: u64,
             table: *const u8, table_len: usize, object: u32) out 4 =>
-        boundary::append(lent_mut(log, log_len), tail as usize, &Request::Checkpoint {
+        boundary::append(dir, lent_mut(log, log_len), tail as usize, &Request::Checkpoint {
             record: record(hosted, position, count),
             table: lent(table, table_len).to_vec(),
             object,
         });
-    stocklog_open_fresh(hosted: u8) out 4 => boundary::open_fresh(hosted);
+    stocklog_open_fresh(hosted: u64) out 4 => boundary::open_fresh(dir, hosted);
     stocklog_open_checkpoint(log: *const u8, log_len: usize, tail: u64, offset: u64, table: *mut u8, table_len: usize) out 4 =>
-        boundary::open_checkpoint(lent(log, log_len), tail as usize, offset, lent_mut(table, table_len));
-    stocklog_play(log: *const u8, log_len: usize, tail: u64, hosted: u8, position: u64, count: u64,
+        boundary::open_checkpoint(dir, lent(log, log_len), tail as usize, offset, lent_mut(table, table_len));
+    stocklog_play(log: *const u8, log_len: usize, tail: u64, hosted: u64, position: u64, count: u64,
             table: *mut u8, table_len: usize, stop: u64) out 4 =>
-        boundary::play(lent(log, log_len), tail as usize, record(hosted, position, count),
+        boundary::play(dir, lent(log, log_len), tail as usize, record(hosted, position, count),
             lent_mut(table, table_len), stop);
-    stocklog_read_cell(hosted: u8, position: u64, count: u64, table: *const u8, table_len: usize, object: u32, key: u32) out 4 =>
-        boundary::read_cell(record(hosted, position, count), lent(table, table_len), object, key);
+    stocklog_read_cell(hosted: u64, position: u64, count: u64, table: *const u8, table_len: usize, object: u32, key: u32) out 4 =>
+        boundary::read_cell(dir, record(hosted, position, count), lent(table, table_len), object, key);
     stocklog_audit(log: *const u8, log_len: usize, tail: u64, scratch: *mut u8, scratch_len: usize) out 4 =>
-        boundary::audit(lent(log, log_len), tail as usize, lent_mut(scratch, scratch_len));
+        boundary::audit(dir, lent(log, log_len), tail as usize, lent_mut(scratch, scratch_len));
 }

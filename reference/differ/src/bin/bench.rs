@@ -11,16 +11,22 @@
 //! same run, and must give the same answer and `out`; the layout of its bytes may be another one. `--report` writes the
 //! table with some words of explanation, `--plot` a plot as SVG.
 //!
+//! After the logs of the eight come those over a directory of 64 sparse ids, of 16,384 entries and more where there are such sizes;
+//! the archive of the other landing is not measured on them.
+//!
+//! `bench --takes-directory` has status 0 where the linked archive takes a directory; else it is ended by a signal, as likely as not.
+//!
 //! With `--worst` the logs are those that are made to be slow, each beside one that is not, and some whose commit is
 //! measured beside their check; it prints which rows take over 3 times as long, and `--report` writes a section of the page. Seed, stride, `--before` and `--plot` do nothing then.
 
 use std::process::ExitCode;
 use std::{env, fs};
 
-use differ::measure::{measured, Side, CALLS};
+use differ::measure::{measured, takes_directory, Side, CALLS};
 use differ::page::{self, Slow};
 use differ::plot::plot;
 use differ::points::{rows, Asked, Column};
+use differ::sparse::SPARSE;
 use differ::workload::workload;
 use differ::worst::{log, COMMITS, LOGS};
 
@@ -145,6 +151,29 @@ fn store(file: &str, text: &str) -> Result<(), String> {
     fs::write(file, text).map_err(|error| format!("cannot write {file}: {error}"))
 }
 
+/// The tables of the logs over 64 sparse ids.
+fn sparse(options: &Options) -> Result<String, String> {
+    let mut asked = options.asked.clone();
+    if asked.sizes.iter().any(|size| *size >= 16_384) {
+        asked.sizes.retain(|size| *size >= 16_384);
+    }
+    let mut tables = Vec::new();
+    for log in &SPARSE {
+        eprintln!("{}", log.name);
+        let columns = [
+            Column::library(Some(log.name)),
+            Column::reference(Some(log.name)),
+        ];
+        let mut of_log = Vec::new();
+        for call in CALLS.into_iter().filter(|call| *call != "commit") {
+            of_log.extend(rows(call, &columns, &asked)?);
+        }
+        let table = page::table(&of_log, &columns, asked.limit);
+        tables.push((log.name, table));
+    }
+    Ok(page::sparse(&tables))
+}
+
 fn depots(options: &Options) -> Result<(), String> {
     let columns = columns(&options.before);
     let mut all = Vec::new();
@@ -153,7 +182,8 @@ fn depots(options: &Options) -> Result<(), String> {
     }
     let table = page::table(&all, &columns, options.asked.limit);
     let [appends, commits] = ["append", "commit"].map(|call| page::appends(call, &all, &columns));
-    let tables = format!("{table}\n{appends}\n{commits}");
+    let sparse = sparse(options)?;
+    let tables = format!("{table}\n{appends}\n{commits}\n{sparse}");
     print!("{tables}");
     if let Some(file) = &options.plot {
         store(file, &plot(&page::lines(&all, &columns)))?;
@@ -226,6 +256,9 @@ fn run(options: &Options) -> Result<(), String> {
 }
 
 fn main() -> ExitCode {
+    if env::args().skip(1).eq(["--takes-directory".to_string()]) {
+        return ExitCode::from(u8::from(!takes_directory()));
+    }
     let Some(options) = options() else {
         eprintln!("{USAGE}");
         return ExitCode::from(2);

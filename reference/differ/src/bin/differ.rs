@@ -12,7 +12,8 @@ use std::thread;
 use std::time::Instant;
 
 use differ::damaged::damaged;
-use differ::far::{far, large_tables, most_slots};
+use differ::directories::faults;
+use differ::far::{directed, far, large_tables, most_slots};
 use differ::headers::worked;
 use differ::histories::{history, long_history};
 use differ::pair::{Difference, Pair};
@@ -92,6 +93,7 @@ fn all(pair: &mut Pair, options: &Options) -> Result<(), Difference> {
     part(pair, "damaged logs", options.seed, options.damaged, damaged)?;
     let once = u64::from(options.damaged > 0);
     part(pair, "set of damaged headers", options.seed, once, worked)?;
+    part(pair, "set of directories", options.seed, once, faults)?;
     part(
         pair,
         "long histories",
@@ -106,6 +108,13 @@ fn all(pair: &mut Pair, options: &Options) -> Result<(), Difference> {
         options.seed,
         options.far,
         large_tables,
+    )?;
+    part(
+        pair,
+        "logs of other directories",
+        options.seed,
+        options.far,
+        directed,
     )?;
     if options.far > 0 {
         most_slots(pair)?;
