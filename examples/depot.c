@@ -10,6 +10,10 @@
 
 enum { SLOTS = 16, CELLS = 32, NORTH = 2, VAN = 4, ORDERS = 5, PRICES = 7, FILTER = 7 };
 
+/* The directory of the eight objects, which goes first in every call. Its places are the ids less 1. */
+#define DEPOTS stocklog_eight, sizeof stocklog_eight
+enum { ALL = 0xff };
+
 static uint8_t log_bytes[SLOTS * STOCKLOG_SLOT_SIZE];
 static uint64_t tail = 0;
 
@@ -58,34 +62,37 @@ static void appended(const char *what, uint32_t result, const uint64_t out[4])
 static void update(const char *what, uint32_t transaction, const struct items *items)
 {
     uint64_t out[4];
-    appended(what, stocklog_append_update(log_bytes, sizeof log_bytes, tail, transaction, items->bytes, items->len, out), out);
+    uint32_t result = stocklog_append_update(DEPOTS, log_bytes, sizeof log_bytes, tail, transaction,
+                                             items->bytes, items->len, out);
+    appended(what, result, out);
 }
 
 static void commit(const char *what, uint32_t transaction, const struct items *reads)
 {
     uint64_t out[4];
-    appended(what, stocklog_append_commit(log_bytes, sizeof log_bytes, tail, transaction, reads->bytes, reads->len, out), out);
+    uint32_t result = stocklog_append_commit(DEPOTS, log_bytes, sizeof log_bytes, tail, transaction,
+                                             reads->bytes, reads->len, out);
+    appended(what, result, out);
 }
 
 /* ---- replicas: the record is three numbers that the caller keeps, the table is the caller's memory ---- */
 
 struct replica {
-    uint8_t hosted;
-    uint64_t position, count;
+    uint64_t hosted, position, count;
     uint8_t table[CELLS * STOCKLOG_CELL_SIZE];
 };
 
 static void keep(struct replica *r, const uint64_t out[4])
 {
-    r->hosted = (uint8_t)out[0];
+    r->hosted = out[0];
     r->position = out[1];
     r->count = out[2];
 }
 
-static void open_fresh(struct replica *r, uint8_t hosted)
+static void open_fresh(struct replica *r, uint64_t hosted)
 {
     uint64_t out[4];
-    if (stocklog_open_fresh(hosted, out) == STOCKLOG_DONE)
+    if (stocklog_open_fresh(DEPOTS, hosted, out) == STOCKLOG_DONE)
         keep(r, out);
 }
 
@@ -93,7 +100,7 @@ static void open_fresh(struct replica *r, uint8_t hosted)
 static void play(const char *whose, struct replica *r)
 {
     uint64_t out[4];
-    uint32_t result = stocklog_play(log_bytes, sizeof log_bytes, tail, r->hosted, r->position, r->count,
+    uint32_t result = stocklog_play(DEPOTS, log_bytes, sizeof log_bytes, tail, r->hosted, r->position, r->count,
                                     r->table, sizeof r->table, tail, out);
     const char *said = result == STOCKLOG_DONE ? "done" : result == STOCKLOG_WAITING ? "waits" : "refused";
     keep(r, out);
@@ -104,7 +111,7 @@ static void show(const char *whose, const struct replica *r, uint32_t object, ui
 {
     uint64_t out[4];
     uint32_t result =
-        stocklog_read_cell(r->hosted, r->position, r->count, r->table, sizeof r->table, object, key, out);
+        stocklog_read_cell(DEPOTS, r->hosted, r->position, r->count, r->table, sizeof r->table, object, key, out);
     printf("%s shows (%lu, %lu): ", whose, (unsigned long)object, (unsigned long)key);
     if (result != STOCKLOG_DONE)
         printf("refused %lu\n", (unsigned long)result);
@@ -119,7 +126,7 @@ static void show(const char *whose, const struct replica *r, uint32_t object, ui
 static uint64_t owed(void)
 {
     uint64_t out[4];
-    stocklog_owed(log_bytes, sizeof log_bytes, tail, out);
+    stocklog_owed(DEPOTS, log_bytes, sizeof log_bytes, tail, out);
     if (out[0] == 0)
         printf("no decision is owed\n");
     else
@@ -131,7 +138,7 @@ static void audit(const char *what, const uint8_t *log, uint64_t upto)
 {
     static uint8_t scratch[CELLS * STOCKLOG_CELL_SIZE];
     uint64_t out[4];
-    uint32_t result = stocklog_audit(log, SLOTS * STOCKLOG_SLOT_SIZE, upto, scratch, sizeof scratch, out);
+    uint32_t result = stocklog_audit(DEPOTS, log, SLOTS * STOCKLOG_SLOT_SIZE, upto, scratch, sizeof scratch, out);
     if (result == STOCKLOG_DONE)
         printf("%s: passes, cells %llu, at %llu\n", what, (unsigned long long)out[2], (unsigned long long)out[1]);
     else
@@ -143,14 +150,14 @@ static void entry(uint64_t offset)
     static const char *const kinds[] = {"none", "update", "commit", "decision", "checkpoint"};
     uint64_t info[8], out[4];
     uint32_t place;
-    if (stocklog_entry(log_bytes, sizeof log_bytes, tail, offset, info) != STOCKLOG_DONE)
+    if (stocklog_entry(DEPOTS, log_bytes, sizeof log_bytes, tail, offset, info) != STOCKLOG_DONE)
         return;
     printf("entry %llu: %s, number %llu, %llu items", (unsigned long long)offset, kinds[info[0]],
            (unsigned long long)info[1], (unsigned long long)info[4]);
     for (place = 0; place < info[2]; place++)
-        if (stocklog_header(log_bytes, sizeof log_bytes, tail, offset, place, out) == STOCKLOG_DONE)
+        if (stocklog_header(DEPOTS, log_bytes, sizeof log_bytes, tail, offset, place, out) == STOCKLOG_DONE)
             printf(", object %llu back %llu", (unsigned long long)out[0], (unsigned long long)(out[2] >> 48));
-    stocklog_items(log_bytes, sizeof log_bytes, tail, offset, out);
+    stocklog_items(DEPOTS, log_bytes, sizeof log_bytes, tail, offset, out);
     printf(", items at byte %llu\n", (unsigned long long)out[0]);
 }
 
@@ -160,11 +167,11 @@ static void stream(uint32_t object)
     uint64_t reader = 0;
     uint32_t list[SLOTS];
     printf("entries of object %lu:", (unsigned long)object);
-    while (stocklog_stream_next(log_bytes, sizeof log_bytes, tail, object, reader, out) == STOCKLOG_DONE && out[0] == 1) {
+    while (stocklog_stream_next(DEPOTS, log_bytes, sizeof log_bytes, tail, object, reader, out) == STOCKLOG_DONE && out[0] == 1) {
         printf(" %llu", (unsigned long long)out[1]);
         reader = out[2];
     }
-    if (stocklog_stream_list(log_bytes, sizeof log_bytes, tail, object, list, SLOTS, out) == STOCKLOG_DONE)
+    if (stocklog_stream_list(DEPOTS, log_bytes, sizeof log_bytes, tail, object, list, SLOTS, out) == STOCKLOG_DONE)
         printf(", %llu by the list\n", (unsigned long long)out[0]);
 }
 
@@ -174,7 +181,7 @@ static void liar(uint64_t commit_record)
     static uint8_t copy[sizeof log_bytes];
     uint64_t out[4];
     memcpy(copy, log_bytes, sizeof copy);
-    if (stocklog_append_decision(copy, sizeof copy, tail, commit_record, STOCKLOG_COMMITTED, out) == STOCKLOG_DONE)
+    if (stocklog_append_decision(DEPOTS, copy, sizeof copy, tail, commit_record, STOCKLOG_COMMITTED, out) == STOCKLOG_DONE)
         audit("with a false decision, the audit", copy, out[0]);
 }
 
@@ -208,13 +215,13 @@ int main(void)
     update("transaction 9 once more", 9, &moves);
 
     /* The depot hosts all eight objects and decides by its own cells: 9 went through, so 10 read a stale count. */
-    open_fresh(&depot, 0xff);
+    open_fresh(&depot, ALL);
     play("the depot", &depot);
     show("the depot", &depot, NORTH, FILTER);
     show("the depot", &depot, ORDERS, FILTER);
 
     /* The van hosts its own stock alone. It cannot judge transaction 9, which read the north depot's cell too: it waits. */
-    open_fresh(&van, 1 << (VAN - 1));
+    open_fresh(&van, (uint64_t)1 << (VAN - 1));
     play("the van", &van);
     show("the van", &van, VAN, FILTER);
     show("the van", &van, NORTH, FILTER);
@@ -222,7 +229,7 @@ int main(void)
     /* The van's stock is a marked object, so that commit record owes a decision; the depot gives it, and the van goes on. */
     if (owed() == first_commit)
         appended("the depot decides",
-                 stocklog_append_decision(log_bytes, sizeof log_bytes, tail, first_commit, STOCKLOG_COMMITTED, out), out);
+                 stocklog_append_decision(DEPOTS, log_bytes, sizeof log_bytes, tail, first_commit, STOCKLOG_COMMITTED, out), out);
     owed();
     play("the van", &van);
     show("the van", &van, VAN, FILTER);
@@ -231,10 +238,10 @@ int main(void)
     play("the depot", &depot);
     checkpoint = tail;
     appended("checkpoint",
-             stocklog_append_checkpoint(log_bytes, sizeof log_bytes, tail, depot.hosted, depot.position, depot.count,
+             stocklog_append_checkpoint(DEPOTS, log_bytes, sizeof log_bytes, tail, depot.hosted, depot.position, depot.count,
                                         depot.table, sizeof depot.table, VAN, out),
              out);
-    if (stocklog_open_checkpoint(log_bytes, sizeof log_bytes, tail, checkpoint,
+    if (stocklog_open_checkpoint(DEPOTS, log_bytes, sizeof log_bytes, tail, checkpoint,
                                  second.table, sizeof second.table, out) == STOCKLOG_DONE)
         keep(&second, out);
     show("the second van", &second, VAN, FILTER);

@@ -8,10 +8,11 @@
  *
  * - A slice is a pointer and a length in elements, in that order.
  * - The result is STOCKLOG_DONE, or the number of a refusal.
+ * - The first argument of every call is a directory of objects (below), as a slice of bytes. It is judged before all else.
  * - The last argument, out, is written whole on every return, whatever was in it: values in out[0] to out[2], and in out[3] what a
- *   refusal tells: an offset with STOCKLOG_BAD_ENTRY, STOCKLOG_FALSE_RECORD and the audit's STOCKLOG_NO_ROOM, the place of a read
- *   with STOCKLOG_ASTRAY. A place of out in which nothing is said is 0. So out[3] is 0 for every other answer; it is also 0 where
- *   the number told is 0: the result tells the two apart.
+ *   refusal tells: an offset with STOCKLOG_BAD_ENTRY, STOCKLOG_FALSE_RECORD and the audit's STOCKLOG_NO_ROOM, a place of the directory
+ *   with STOCKLOG_DIRECTORY, the place of a read with STOCKLOG_ASTRAY. A place of out in which nothing is said is 0. So out[3] is 0 for
+ *   every other answer; it is also 0 where the number told is 0: the result tells the two apart.
  *   Unless a call's text says otherwise, out[0] to out[2] are 0 where the call is refused.
  * - No call keeps a pointer, allocates, has state of its own, or waits. Calls from several threads are safe as long as none of
  *   them writes what another uses.
@@ -30,9 +31,26 @@
  *
  * THE LOG is a slice of 256-byte slots, at most 131,072 of them; tail counts the used ones. The caller keeps the tail: 0 for a
  * new log (whose bytes may be anything), then what each append answers. Slots at and above the tail are neither read nor judged.
- * Integers in slots, items and tables are unsigned and stored most significant byte first.
+ * Integers in slots, items, tables and directories are unsigned and stored most significant byte first.
  *
- * OBJECTS, each of which is one stream. Keys go from 0 to the highest; a register has key 0 alone.
+ * A DIRECTORY says which objects there are: 1 to 64 records of 16 bytes, dir_len / 16 of them. An object's place is that of its record,
+ * from 0. A record:
+ *   bytes 0-1    0x4F 0x42 (OB)
+ *   bytes 2-3    0
+ *   bytes 4-7    id, from 1 to 2,147,483,647; ids ascend strictly from place to place
+ *   bytes 8-11   highest key: of a map from 0 to 4,294,967,294, of a register 0
+ *   byte 12      kind: 1 map, 2 register
+ *   byte 13      marked: 1 or 0; a commit record that reads a marked object owes a decision record (stocklog_owed)
+ *   bytes 14-15  0
+ * A directory that is anything else gets STOCKLOG_DIRECTORY from every call, and out[3] tells the first place at fault, from 0: where a
+ * record breaks these rules, or its id is not above the one before; where it is cut, or, of a directory of no bytes, missing; place
+ * 64, if a record begins there. Nothing is changed then.
+ * No log says which directory it was made with. The caller keeps one directory for each log, for the log's whole life, and hands it to
+ * every call on that log and its replicas. A call judges by the directory that it is handed: an entry that names an object or a key
+ * that is not there is a bad entry, and such an object or key in a call's own argument a bad request.
+ *
+ * OBJECTS, each of which is one stream. Keys go from 0 to the highest; a register has key 0 alone. Those of the depots, whose directory
+ * is stocklog_eight below:
  *   1 filters used, by patient  9999  marked     5 orders, by item    9999
  *   2 north depot stock          499             6 next order number     0  marked
  *   3 south depot stock          499  marked     7 price list number     0
@@ -48,13 +66,14 @@
  * It is what stocklog_read_cell answers, and what a read has. An offset sent in its place is one too low: STOCKLOG_ASTRAY is for that,
  * though offset 0, and one that is a version of the cell by chance, pass.
  *
- * A REPLICA is a record of three numbers, which the caller keeps and hands over: the hosted set (one byte: bit 0 for object 1, up
- * to bit 7 for object 8), the position, and the count of cells; and a lent table of 24-byte rows, one cell each: object 4, key 4,
- * value 4 (0 if removed), present 4 (1 or 0), version 8. Its capacity is table_len / 24. The first rows, as many as the count says,
- * ascend strictly by object, then key, both compared as the stored unsigned numbers. Bytes past the counted rows are not touched.
+ * A REPLICA is a record of three numbers, which the caller keeps and hands over: the hosted set (64 bits: bit k for the object at
+ * place k of the directory), the position, and the count of cells; and a lent table of 24-byte rows, one cell each: object 4, key 4,
+ * value 4 (0 if removed), present 4 (1 or 0), version 8. Its capacity is table_len / 24. A hosted set has at least one bit, and none
+ * past the directory's last record. The first rows, as many as the count says, ascend strictly by object, then key, both compared as
+ * the stored unsigned numbers. Bytes past the counted rows are not touched.
  * A call that takes a record with a table (stocklog_play, stocklog_append_checkpoint, stocklog_read_cell) answers 10 where its counted
- * rows do not ascend so, whatever objects and keys they name, a cell twice included. Rows of objects that are not hosted, or not among
- * the eight, are otherwise left alone: where a new row comes before them they move with all their bytes. stocklog_open_checkpoint and
+ * rows do not ascend so, whatever objects and keys they name, a cell twice included. Rows of objects that are not hosted, or not in
+ * the directory, are otherwise left alone: where a new row comes before them they move with all their bytes. stocklog_open_checkpoint and
  * stocklog_audit look at no row of the table lent to them.
  * A table kept from an earlier version of this library has its rows in order of first writing: it gets 10 unless it ascends by chance.
  * Open the replica anew and play it.
@@ -69,7 +88,10 @@
 extern "C" {
 #endif
 
-/* The result of every call. "Left behind" is said at each call; with 1 to 10, 14 and 16 nothing is changed, whatever the call. */
+/*
+ * The result of every call. "Left behind" is said at each call; with 1 to 10 and 14 to 16 nothing is changed, whatever the call.
+ * Each call states its refusals in the order in which it tests for them; 15 is ahead of all others in every call.
+ */
 enum {
     STOCKLOG_DONE = 0,
     STOCKLOG_FRAME = 1,         /* log_len not whole slots, over 131,072 slots, or tail above the slots */
@@ -81,13 +103,14 @@ enum {
     STOCKLOG_NO_COMMIT = 7,     /* a decision for an entry that is no commit record */
     STOCKLOG_DECIDED = 8,       /* the commit record has a decision record */
     STOCKLOG_FULL = 9,          /* tail equals the slots */
-    STOCKLOG_BAD_REPLICA = 10,  /* hosted set 0, count over the table's capacity, counted rows that do not ascend strictly by
-                                   object, then key, or position over the tail */
+    STOCKLOG_BAD_REPLICA = 10,  /* hosted set 0 or with a bit past the directory's last record, count over the table's capacity,
+                                   counted rows that do not ascend strictly by object, then key, or position over the tail */
     STOCKLOG_FALSE_RECORD = 11, /* audit: a decision or checkpoint is not as played; out[3]: the lowest such offset */
     STOCKLOG_WAITING = 12,      /* play: a commit record whose reads are not all hosted, with no decision record yet */
     STOCKLOG_NO_ROOM = 13,      /* more new cells than the table has room for, more offsets than the list, or more than
                                    12 cells for a checkpoint; from the audit, out[3]: the entry's offset */
     STOCKLOG_BEHIND = 14,       /* a checkpoint from a replica that is not at the tail */
+    STOCKLOG_DIRECTORY = 15,    /* the directory breaks its rules; out[3]: the first place at fault, from 0 */
     STOCKLOG_ASTRAY = 16        /* a commit has a read with a version v over 0, and the entry at v - 1 is neither a plain
                                    update that writes the cell nor a commit record whose updates do; out[3]: the place,
                                    from 0, of the first such read */
@@ -108,17 +131,34 @@ enum {
     STOCKLOG_SLOT_SIZE = 256,
     STOCKLOG_ITEM_SIZE = 16,
     STOCKLOG_CELL_SIZE = 24,
+    STOCKLOG_RECORD_SIZE = 16,
     STOCKLOG_MOST_SLOTS = 131072,
-    STOCKLOG_MOST_ITEMS = 12
+    STOCKLOG_MOST_ITEMS = 12,
+    STOCKLOG_MOST_OBJECTS = 64
+};
+
+/* Kinds of object, in a directory's record. */
+enum { STOCKLOG_MAP = 1, STOCKLOG_REGISTER = 2 };
+
+/* The directory of the depots' eight objects: 128 bytes, a record to a line. */
+static const uint8_t stocklog_eight[128] = {
+    0x4F, 0x42, 0, 0, 0, 0, 0, 1, 0, 0, 0x27, 0x0F, 1, 1, 0, 0, /* filters used, by patient: map to 9999, marked */
+    0x4F, 0x42, 0, 0, 0, 0, 0, 2, 0, 0, 0x01, 0xF3, 1, 0, 0, 0, /* north depot stock: map to 499 */
+    0x4F, 0x42, 0, 0, 0, 0, 0, 3, 0, 0, 0x01, 0xF3, 1, 1, 0, 0, /* south depot stock: map to 499, marked */
+    0x4F, 0x42, 0, 0, 0, 0, 0, 4, 0, 0, 0x01, 0xF3, 1, 1, 0, 0, /* van stock: map to 499, marked */
+    0x4F, 0x42, 0, 0, 0, 0, 0, 5, 0, 0, 0x27, 0x0F, 1, 0, 0, 0, /* orders, by item: map to 9999 */
+    0x4F, 0x42, 0, 0, 0, 0, 0, 6, 0, 0, 0x00, 0x00, 2, 1, 0, 0, /* next order number: register, marked */
+    0x4F, 0x42, 0, 0, 0, 0, 0, 7, 0, 0, 0x00, 0x00, 2, 0, 0, 0, /* price list number: register */
+    0x4F, 0x42, 0, 0, 0, 0, 0, 8, 0, 0, 0x00, 0x00, 2, 0, 0, 0  /* last stocktake: register */
 };
 
 /*
  * Bytes of stack that are enough for any call, from its entry on, on x86-64. No call recurses, and its arrays have fixed
  * lengths, so its use does not depend on the log. For one call these are enough:
- *   2,640,000  stocklog_audit
- *   2,510,000  stocklog_play
+ *   2,990,000  stocklog_audit
+ *   2,860,000  stocklog_play
  *       1,000  stocklog_open_fresh, stocklog_read_cell
- *   1,970,000  each other
+ *   2,330,000  each other
  * tools/stack adds up what is used from the archive's machine code (frames along the calls, and 16 KiB for memset and memcpy),
  * and fails where it is more than is stated here, or where a figure here is over 5 % and over 1,000 bytes more.
  */
@@ -126,138 +166,152 @@ enum { STOCKLOG_STACK = 3145728 };
 
 /* ---- Reading a log. Nothing lent is changed, but for out and the list of stocklog_stream_list. ---- */
 
-/* Judges the frame and every entry below the tail. Refusals, in this order: 1, 2. */
-uint32_t stocklog_check(const uint8_t *log, size_t log_len, uint64_t tail, uint64_t out[4]);
+/* Judges the directory, the frame and every entry below the tail. Refusals, in this order: 15, 1, 2. */
+uint32_t stocklog_check(
+    const uint8_t *dir, size_t dir_len, const uint8_t *log, size_t log_len, uint64_t tail, uint64_t out[4]);
 
 /*
  * The lowest commit record that owes a decision record: it reads a marked object and no decision names it.
- * Done: out[0] is 1 and out[1] its offset; or out[0] and out[1] are 0 where none owes. Refusals: 1, 2.
+ * Done: out[0] is 1 and out[1] its offset; or out[0] and out[1] are 0 where none owes. Refusals: 15, 1, 2.
  */
-uint32_t stocklog_owed(const uint8_t *log, size_t log_len, uint64_t tail, uint64_t out[4]);
+uint32_t stocklog_owed(
+    const uint8_t *dir, size_t dir_len, const uint8_t *log, size_t log_len, uint64_t tail, uint64_t out[4]);
 
 /*
  * The entry at an offset. Note the eight places of out.
  * Done: out[0] its kind (STOCKLOG_UPDATE ..), out[1] its transaction number (0 is none), out[2] how many headers, out[4] how many
- * items. Refused: out[3] as everywhere, the others 0. Refusals: 1, 2, 3 (offset not below the tail).
+ * items. Refused: out[3] as everywhere, the others 0. Refusals: 15, 1, 2, 3 (offset not below the tail).
  */
-uint32_t stocklog_entry(const uint8_t *log, size_t log_len, uint64_t tail, uint64_t offset, uint64_t out[8]);
+uint32_t stocklog_entry(
+    const uint8_t *dir, size_t dir_len, const uint8_t *log, size_t log_len, uint64_t tail, uint64_t offset,
+    uint64_t out[8]);
 
 /*
  * One stream header of the entry at an offset, by its place from 0.
  * Done: out[0] the object, out[1] the pointer format, out[2] the stored 8 bytes as one number: with format 0 four 2-byte distances
  * back, the nearest in the top 16 bits, 0 where there is none; with format 1 the nearest earlier entry's offset.
- * Refusals: 1, 2, 3 (offset not below the tail, or place not below the number of headers).
+ * Refusals: 15, 1, 2, 3 (offset not below the tail, or place not below the number of headers).
  */
 uint32_t stocklog_header(
-    const uint8_t *log, size_t log_len, uint64_t tail, uint64_t offset, uint32_t place, uint64_t out[4]);
+    const uint8_t *dir, size_t dir_len, const uint8_t *log, size_t log_len, uint64_t tail, uint64_t offset,
+    uint32_t place, uint64_t out[4]);
 
 /*
  * Where the items of the entry at an offset lie in the log's own bytes.
  * Done: out[0] their byte position in the log, out[1] their length in bytes. Refused: 0, 0.
- * Refusals: 1, 2, 3 (offset not below the tail).
+ * Refusals: 15, 1, 2, 3 (offset not below the tail).
  */
-uint32_t stocklog_items(const uint8_t *log, size_t log_len, uint64_t tail, uint64_t offset, uint64_t out[4]);
+uint32_t stocklog_items(
+    const uint8_t *dir, size_t dir_len, const uint8_t *log, size_t log_len, uint64_t tail, uint64_t offset,
+    uint64_t out[4]);
 
 /*
  * A stream reader's next: the lowest entry of an object at or above offset from.
  * Done: out[0] 1, out[1] the entry's offset, out[2] the reader's next offset (one past it); or, at the end, 0, 0 and the tail.
- * Refused: 0, 0, from. Refusals: 1, 2, 3 (an object that is none of the eight, or from above the tail).
+ * Refused: 0, 0, from. Refusals: 15, 1, 2, 3 (an object that is not in the directory, or from above the tail).
  */
 uint32_t stocklog_stream_next(
-    const uint8_t *log, size_t log_len, uint64_t tail, uint32_t object, uint64_t from, uint64_t out[4]);
+    const uint8_t *dir, size_t dir_len, const uint8_t *log, size_t log_len, uint64_t tail, uint32_t object,
+    uint64_t from, uint64_t out[4]);
 
 /*
  * All offsets of an object's entries, ascending, into the start of list; the rest of the list is untouched.
- * Done: out[0] how many. Refused: the list is untouched. Refusals: 1, 2, 3 (an object that is none of the eight),
+ * Done: out[0] how many. Refused: the list is untouched. Refusals: 15, 1, 2, 3 (an object that is not in the directory),
  * 13 (more offsets than list_len).
  */
 uint32_t stocklog_stream_list(
-    const uint8_t *log, size_t log_len, uint64_t tail, uint32_t object, uint32_t *list, size_t list_len,
-    uint64_t out[4]);
+    const uint8_t *dir, size_t dir_len, const uint8_t *log, size_t log_len, uint64_t tail, uint32_t object,
+    uint32_t *list, size_t list_len, uint64_t out[4]);
 
 /* ---- Appending. Done: out[0] is the new tail, and exactly the 256 bytes of the slot at the old tail are written. ----
  * ---- Refused: no byte of the log is changed.                                                                     ---- */
 
 /*
  * An update of 1 to 12 writes. Number 0 is a plain update, which is made at once; any other number sets the writes aside for its
- * commit record. Refusals: 1, 2, 3 (items_len not 16 times 1 to 12; a write's object, key, operation or value), 5 (the update
+ * commit record. Refusals: 15, 1, 2, 3 (items_len not 16 times 1 to 12; a write's object, key, operation or value), 5 (the update
  * names over four objects), 4, 5 (its transaction does, with it), 9.
  */
 uint32_t stocklog_append_update(
-    uint8_t *log, size_t log_len, uint64_t tail, uint32_t number, const uint8_t *items, size_t items_len,
-    uint64_t out[4]);
+    const uint8_t *dir, size_t dir_len, uint8_t *log, size_t log_len, uint64_t tail, uint32_t number,
+    const uint8_t *items, size_t items_len, uint64_t out[4]);
 
 /*
  * A commit record with 0 to 12 reads: the transaction commits where every read's version is the cell's version there.
- * Refusals: 1, 2, 3 (number 0; reads_len not 16 times 0 to 12; a read's object or key; a version above the tail; reads not
+ * Refusals: 15, 1, 2, 3 (number 0; reads_len not 16 times 0 to 12; a read's object or key; a version above the tail; reads not
  * strictly ascending), 4, 6, 16 (a read's version is no version that the cell had or, had a commit record committed, would have
  * had; out[3] its place from 0), 9. A stale version is not refused: it makes the transaction abort. What a replica of a log that
  * the audit passes shows is never refused with 16. Logs that have such reads already stay good.
  */
 uint32_t stocklog_append_commit(
-    uint8_t *log, size_t log_len, uint64_t tail, uint32_t number, const uint8_t *reads, size_t reads_len,
-    uint64_t out[4]);
+    const uint8_t *dir, size_t dir_len, uint8_t *log, size_t log_len, uint64_t tail, uint32_t number,
+    const uint8_t *reads, size_t reads_len, uint64_t out[4]);
 
 /*
  * A decision record: the outcome (STOCKLOG_COMMITTED or STOCKLOG_ABORTED) of the commit record at an offset. Whether it is true is
- * for the audit. Refusals: 1, 2, 3 (offset not below the tail, or another outcome), 7, 8, 9.
+ * for the audit. Refusals: 15, 1, 2, 3 (offset not below the tail, or another outcome), 7, 8, 9.
  */
 uint32_t stocklog_append_decision(
-    uint8_t *log, size_t log_len, uint64_t tail, uint64_t offset, uint32_t outcome, uint64_t out[4]);
+    const uint8_t *dir, size_t dir_len, uint8_t *log, size_t log_len, uint64_t tail, uint64_t offset,
+    uint32_t outcome, uint64_t out[4]);
 
 /*
  * A checkpoint: every cell of one object that a replica at the tail has. The table is only read.
- * Refusals: 1, 2, 10, 3 (object none of the eight or not hosted; a cell of it, up to the count, whose key is over the highest or
- * whose version is not 1 to the tail), 14, 13 (over 12 cells), 9.
+ * Refusals: 15, 1, 2, 10, 3 (object not in the directory or not hosted; a cell of it, up to the count, whose key is over the highest
+ * or whose version is not 1 to the tail), 14, 13 (over 12 cells), 9.
  */
 uint32_t stocklog_append_checkpoint(
-    uint8_t *log, size_t log_len, uint64_t tail, uint8_t hosted, uint64_t position, uint64_t count,
-    const uint8_t *table, size_t table_len, uint32_t object, uint64_t out[4]);
+    const uint8_t *dir, size_t dir_len, uint8_t *log, size_t log_len, uint64_t tail, uint64_t hosted,
+    uint64_t position, uint64_t count, const uint8_t *table, size_t table_len, uint32_t object,
+    uint64_t out[4]);
 
 /* ---- Replicas. Where a call answers a record, out[0] is the hosted set, out[1] the position, out[2] the count of cells. ---- */
 
-/* A replica of a set of objects at offset 0, with no cells: any table serves it. Done: the record. Refusals: 10 (hosted 0 alone). */
-uint32_t stocklog_open_fresh(uint8_t hosted, uint64_t out[4]);
+/*
+ * A replica of a set of objects at offset 0, with no cells: any table serves it.
+ * Done: the record. Refusals: 15, 10 (hosted 0, or with a bit past the directory's last record).
+ */
+uint32_t stocklog_open_fresh(const uint8_t *dir, size_t dir_len, uint64_t hosted, uint64_t out[4]);
 
 /*
  * A replica opened at the checkpoint at an offset: it hosts that object alone, from the next offset, its cells in key order.
  * Done: the record; its cells are written to the start of the table. Refused: 0, 0, 0, and the table is unchanged.
- * Refusals: 1, 2, 3 (offset not below the tail, or no checkpoint there), 13 (more cells than the table's capacity).
+ * Refusals: 15, 1, 2, 3 (offset not below the tail, or no checkpoint there), 13 (more cells than the table's capacity).
  */
 uint32_t stocklog_open_checkpoint(
-    const uint8_t *log, size_t log_len, uint64_t tail, uint64_t offset, uint8_t *table, size_t table_len,
-    uint64_t out[4]);
+    const uint8_t *dir, size_t dir_len, const uint8_t *log, size_t log_len, uint64_t tail, uint64_t offset,
+    uint8_t *table, size_t table_len, uint64_t out[4]);
 
 /*
  * Plays a replica from its position to a stop. Whatever the answer, out has the record to go on with.
  * Done: the record at the stop. 12: the record at the commit record that it waits for; 13: at the entry that has no room; in both
  * cases the table shows all entries below that position and nothing of the one there. After all three the counted rows ascend.
- * Any other refusal: the record as it was given, the table unchanged. Refusals: 1, 2, 10, 3 (stop above the tail, or below the position), then at an entry 12
- * before 13. 13 tells no offset here: it is the record's position.
+ * Any other refusal: the record as it was given, the table unchanged. Refusals: 15, 1, 2, 10, 3 (stop above the tail, or below the
+ * position), then at an entry 12 before 13. 13 tells no offset here: it is the record's position.
  */
 uint32_t stocklog_play(
-    const uint8_t *log, size_t log_len, uint64_t tail, uint8_t hosted, uint64_t position, uint64_t count,
-    uint8_t *table, size_t table_len, uint64_t stop, uint64_t out[4]);
+    const uint8_t *dir, size_t dir_len, const uint8_t *log, size_t log_len, uint64_t tail, uint64_t hosted,
+    uint64_t position, uint64_t count, uint8_t *table, size_t table_len, uint64_t stop, uint64_t out[4]);
 
 /*
  * What a replica shows for a cell.
  * Done: out[0] STOCKLOG_NEVER_WRITTEN, and 0, 0; or STOCKLOG_HOLDS, the value and the version; or STOCKLOG_REMOVED, 0 and the
- * version. Refusals: 10 (there is no tail, so the position is not tested; the rows are), 3 (object not hosted, or key over its
- * highest).
+ * version. Refusals: 15, 10 (there is no tail, so the position is not tested; the hosted set and the rows are), 3 (object not in the
+ * directory or not hosted, or key over its highest).
  */
 uint32_t stocklog_read_cell(
-    uint8_t hosted, uint64_t position, uint64_t count, const uint8_t *table, size_t table_len,
-    uint32_t object, uint32_t key, uint64_t out[4]);
+    const uint8_t *dir, size_t dir_len, uint64_t hosted, uint64_t position, uint64_t count,
+    const uint8_t *table, size_t table_len, uint32_t object, uint32_t key, uint64_t out[4]);
 
 /*
  * The audit: plays every object from offset 0 over a scratch table, and compares each decision and each checkpoint with the play.
- * Done: the record at the tail, as for a replica of all eight objects with the scratch as its table. 11: the same, and out[3] the
- * lowest decision or checkpoint that is not as played. 13: the record at the entry that has no room, whose offset out[3] tells
- * too; the scratch shows all entries below it. After all three its counted rows ascend. 1, 2: 0, 0, 0, the scratch unchanged.
- * Refusals: 1, 2, 13, 11.
+ * Done: the record at the tail, as for a replica of all objects of the directory with the scratch as its table. 11: the same, and
+ * out[3] the lowest decision or checkpoint that is not as played. 13: the record at the entry that has no room, whose offset out[3]
+ * tells too; the scratch shows all entries below it. After all three its counted rows ascend. 15, 1, 2: 0, 0, 0, the scratch
+ * unchanged. Refusals: 15, 1, 2, 13, 11.
  */
 uint32_t stocklog_audit(
-    const uint8_t *log, size_t log_len, uint64_t tail, uint8_t *scratch, size_t scratch_len, uint64_t out[4]);
+    const uint8_t *dir, size_t dir_len, const uint8_t *log, size_t log_len, uint64_t tail, uint8_t *scratch,
+    size_t scratch_len, uint64_t out[4]);
 
 #ifdef __cplusplus
 }
