@@ -115,6 +115,30 @@ none-set : (bs : List Object) → hostedBy bs 0 ≡ []
 none-set [] = refl
 none-set (b ∷ bs) = none-set bs
 
+-- ---- over four objects
+
+after-four : (xs : List ℕ) → not (isEmpty (afterFirst (afterFirst (afterFirst (afterFirst xs))))) ≡ ltb 4 (length xs)
+after-four [] = refl
+after-four (a ∷ []) = refl
+after-four (a ∷ b ∷ []) = refl
+after-four (a ∷ b ∷ c ∷ []) = refl
+after-four (a ∷ b ∷ c ∷ e ∷ []) = refl
+after-four (a ∷ b ∷ c ∷ e ∷ f ∷ xs) = sym (lt-ltb 4 (length (a ∷ b ∷ c ∷ e ∷ f ∷ xs)) (omega arith))
+
+-- what is left of a set without bits past the last record has none
+pub left-listed : (d : List ℕ) {set rest : ℕ} → rest ≡ othersOf set → Listed (shapeOf d) set → Listed (shapeOf d) rest
+left-listed d {set} e l = omega (arith, e, and-le-r set (set - 1), l)
+
+-- the first four objects taken away, one after the other
+pub over-four : {d : List ℕ} → Ruled d → (set a b c e : ℕ) → Listed (shapeOf d) e
+    → hosted (shapeOf d) a ≡ afterFirst (hosted (shapeOf d) set) → hosted (shapeOf d) b ≡ afterFirst (hosted (shapeOf d) a)
+    → hosted (shapeOf d) c ≡ afterFirst (hosted (shapeOf d) b) → hosted (shapeOf d) e ≡ afterFirst (hosted (shapeOf d) c)
+    → not (eqb e 0) ≡ ltb 4 (length (hosted (shapeOf d) set))
+over-four {d} r set a b c e l ha hb hc he =
+    ap not (sym (hosted-none d r e l))
+    ∙ ap (λ (xs : List ℕ). not (isEmpty xs)) (he ∙ ap afterFirst (hc ∙ ap afterFirst (hb ∙ ap afterFirst ha)))
+    ∙ after-four (hosted (shapeOf d) set)
+
 -- the set of none
 pub has-none : (d : List ℕ) → SetHas d 0 []
 unfolding hosted

@@ -4,15 +4,28 @@ ghost use mathlib.Core.Path.{_≡_};
 ghost use mathlib.Core.Bool.{true};
 ghost use mathlib.Core.List.{List};
 ghost use Prim.Native.Nat.{ℕ, _≤_};
+ghost use lib.Dec.{ltb};
 ghost use lib.ListN.{length};
 ghost use Rattle.lists.specs.Sets.{mem};
 ghost use Rattle.model.specs.Objects.{isObject, hosted, everything, badSet};
 ghost use Rattle.model.specs.Terms.{Listed};
 ghost use Rattle.model.specs.Directory.{shapeOf};
-ghost use Rattle.laws.specs.Ruled.{Ruled};
+ghost use Rattle.laws.specs.Ruled.{Ruled, PlaceOf};
 ghost use Rattle.directory.specs.Sets.{Only, United, SetWith, Lowest, othersOf, afterFirst};
 use crate::layout::MOST_RECORDS;
 use codec::names::ObjectId;
+
+// The set has the object that stands at place k, or for which k is the number of records.
+pub fn hosts_at(dir: &[u8], set: u64, k: usize) -> bool
+    requires { ⌜ Ruled (now dir) ⌝ }
+    ensures { λ r. ⌜ ((o : ℕ) → PlaceOf (now (dir .entry)) o k → r ≡ mem o (hosted (shapeOf (now (dir .entry))) set)) ⌝ }
+{
+    if crate::places::count(dir) <= k {
+        return false;
+    }
+    let bit = (set >> k) & 1;
+    bit == 1
+}
 
 // The set has the object.
 pub fn hosts(dir: &[u8], set: u64, id: ObjectId) -> bool
@@ -20,11 +33,7 @@ pub fn hosts(dir: &[u8], set: u64, id: ObjectId) -> bool
     ensures { λ r. ⌜ r ≡ mem (id .0) (hosted (shapeOf (now (dir .entry))) set) ⌝ }
 {
     let k = crate::places::place_of(dir, id);
-    if crate::places::count(dir) <= k {
-        return false;
-    }
-    let bit = (set >> k) & 1;
-    bit == 1
+    hosts_at(dir, set, k)
 }
 
 // The set of one object.
@@ -72,6 +81,16 @@ pub fn others(set: u64) -> u64
         return 0;
     }
     set & (set - 1)
+}
+
+// The set has over four objects. Quicker than a count of its bits, which takes many steps where the processor has no instruction for it.
+pub fn is_over_four(set: u64) -> bool
+    ensures { λ r. ⌜ ((d : List ℕ) → Ruled d → Listed (shapeOf d) set → r ≡ ltb 4 (length (hosted (shapeOf d) set))) ⌝ }
+{
+    let a = others(set);
+    let b = others(a);
+    let c = others(b);
+    others(c) != 0
 }
 
 // The set has no object, or a bit past the last record's.
