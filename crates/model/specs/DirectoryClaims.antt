@@ -80,7 +80,7 @@ atPlace k = record { number = 15; told = some k }
 -- Every call answers 15 and tells the place, whatever else it is given, and changes nothing.
 pub record TurnsDown (sh : Shape) (k : ℕ) : Type 0 where
   pub checking : (log : Log) → check sh log ≡ refused (atPlace k)
-  pub owing : (log : Log) → owed sh log ≡ refused (atPlace k)
+  pub owing : (log : Log) (sets : List ℕ) → owed sh log sets ≡ refused (atPlace k)
   pub reading : (log : Log) (o : ℕ) → entryCall sh log o ≡ refused (atPlace k)
   pub listing : (log : Log) (o : ℕ) → itemList sh log o ≡ []
   pub next : (log : Log) (x from : ℕ) → streamNext sh log x from ≡ record { found = refused (atPlace k); reader = from }

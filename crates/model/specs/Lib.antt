@@ -17,6 +17,7 @@ pub mod Claims
 pub mod HeaderClaims
 pub mod ReadClaims
 pub mod DirectoryClaims
+pub mod OwedClaims
 pub mod Report
 pub mod Worked
 pub mod Literal

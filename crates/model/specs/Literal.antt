@@ -12,7 +12,7 @@ use Rattle.lists.specs.Splice.{splice}
 use Rattle.lists.specs.Rows.{values, joined}
 use Rattle.lists.specs.First.{first, firstFrom}
 use Rattle.lists.specs.Equal.{eqList}
-use Rattle.model.specs.Objects.{Object, ObjectKind, aMap, aRegister, theObjects, theLayout, depots, ids, isObject, isCell, isMarked, hosted, setOf, everything}
+use Rattle.model.specs.Objects.{Object, ObjectKind, aMap, aRegister, theObjects, theLayout, depots, ids, isObject, isCell, hosted, setOf, everything}
 use Rattle.model.specs.Entries.{Held, Saved, Entry, isNone, numbered, commit, decision, checkpoint, Log, writesOf, stamps, astray, closed, decided, headerObjects, numberOf, earlier}
 use Rattle.model.specs.Slot.{valueField, headerWith, writeBytes, writeAt, readBytes, readAt, savedBytes, savedAt, itemBytes, itemCount, headerOf, slotOf, decode, slot, logIn, objectsIn}
 use Rattle.model.specs.Rules.{okEntry, lowest, lowestBad, okWrite, okWrites, okRead, okReads, okSaved, narrow, goodAt, repeats}
@@ -139,7 +139,7 @@ slot6 =
 -- the log that the appends leave in eight slots: seven entries, and the last slot as it was
 pub entries-written : (let l = logBy 8 kinds in
     eqb (l .tail) 7 && eqList (l .bytes) (slot0 ++ slot1 ++ slot2 ++ slot3 ++ slot4 ++ slot5 ++ slot6 ++ replicate 256 7)) ≡ true
-unfolding beAt bytesOf splice values joined first firstFrom eqList writesOf stamps astray closed decided headerObjects earlier writeBytes writeAt readBytes readAt savedBytes savedAt itemBytes itemCount headerOf slotOf decode slot logIn okEntry lowest lowestBad cellAt cellBytes cellsOf inOrder savedOf commitsOver entryOf firstPlace ownTests append grown isObject isCell isMarked hosted okWrite okWrites okRead okReads okSaved narrow goodAt badFrame objectsIn repeats
+unfolding beAt bytesOf splice values joined first firstFrom eqList writesOf stamps astray closed decided headerObjects earlier writeBytes writeAt readBytes readAt savedBytes savedAt itemBytes itemCount headerOf slotOf decode slot logIn okEntry lowest lowestBad cellAt cellBytes cellsOf inOrder savedOf commitsOver entryOf firstPlace ownTests append grown isObject isCell hosted okWrite okWrites okRead okReads okSaved narrow goodAt badFrame objectsIn repeats
 entries-written = refl
 
 -- Table cells: object, key, value, present, version. Object 5 played over entry 0 and a table of 50 bytes: a removed cell, whose key is
@@ -159,7 +159,7 @@ pub cells-written : (
     && shows (readCell depots (record { hosting = 0x10; position = 0; count = 1 }) (
     0x00 ∷ 0x00 ∷ 0x00 ∷ 0x05 ∷ 0x00 ∷ 0x00 ∷ 0x12 ∷ 0x34 ∷ 0xA0 ∷ 0xB0 ∷ 0xC0 ∷ 0xD0 ∷ 0x00 ∷ 0x00 ∷ 0x00 ∷ 0x01
     ∷ 0x01 ∷ 0x02 ∷ 0x03 ∷ 0x04 ∷ 0x05 ∷ 0x06 ∷ 0x07 ∷ 0x08 ∷ []) 5 0x1234) 0x0102030405060708 0xA0B0C0D0) ≡ true
-unfolding beAt bytesOf splice values joined first firstFrom eqList writesOf stamps astray closed decided headerObjects earlier writeBytes writeAt readBytes readAt savedBytes savedAt itemBytes itemCount headerOf slotOf decode slot logIn okEntry lowest lowestBad cellAt cellBytes cellsOf tableWith apply savedOf play commitsOver entryOf firstPlace ownTests append openFresh playCall readCell grown isObject isCell isMarked hosted okWrite okWrites okRead okReads okSaved narrow goodAt lookup inOrder store step badFrame objectsIn repeats
+unfolding beAt bytesOf splice values joined first firstFrom eqList writesOf stamps astray closed decided headerObjects earlier writeBytes writeAt readBytes readAt savedBytes savedAt itemBytes itemCount headerOf slotOf decode slot logIn okEntry lowest lowestBad cellAt cellBytes cellsOf tableWith apply savedOf play commitsOver entryOf firstPlace ownTests append openFresh playCall readCell grown isObject isCell hosted okWrite okWrites okRead okReads okSaved narrow goodAt lookup inOrder store step badFrame objectsIn repeats
 cells-written = refl
 
 -- A long log, without bytes: object 2 has the update at 0 and its commit record at 0x0304, and every other entry is of object 1.
@@ -236,13 +236,13 @@ pub objects-written : (
     && eqList (map (λ (b : Object). bit (isMap (b .kind))) theObjects) (1 ∷ 1 ∷ 1 ∷ 1 ∷ 1 ∷ 0 ∷ 0 ∷ 0 ∷ [])
     && eqList (map (λ (b : Object). b .highest) theObjects) highestKeys
     && topKeys (ids depots) highestKeys
-    && eqList (map (λ o. bit (isMarked depots o)) (0 ∷ 1 ∷ 2 ∷ 3 ∷ 4 ∷ 5 ∷ 6 ∷ 7 ∷ 8 ∷ 9 ∷ [])) (0 ∷ 1 ∷ 0 ∷ 1 ∷ 1 ∷ 0 ∷ 1 ∷ 0 ∷ 0 ∷ 0 ∷ [])
+    && eqList (map (λ (b : Object). bit (b .marked)) theObjects) (1 ∷ 0 ∷ 1 ∷ 1 ∷ 0 ∷ 1 ∷ 0 ∷ 0 ∷ [])
     && eqList (map (λ o. bit (isObject depots o)) (0 ∷ 1 ∷ 2 ∷ 3 ∷ 4 ∷ 5 ∷ 6 ∷ 7 ∷ 8 ∷ 9 ∷ [])) (0 ∷ 1 ∷ 1 ∷ 1 ∷ 1 ∷ 1 ∷ 1 ∷ 1 ∷ 1 ∷ 0 ∷ [])
     && eqb (cellsOfAll theObjects) 21503
     -- hosted sets: bit 0 for object 1, bit 7 for object 8
     && eqList (hosted depots 0x91) (1 ∷ 5 ∷ 8 ∷ []) && eqList (map (setOf depots) (ids depots)) (1 ∷ 2 ∷ 4 ∷ 8 ∷ 0x10 ∷ 0x20 ∷ 0x40 ∷ 0x80 ∷ [])
     && eqb (everything depots) 0xFF) ≡ true
-unfolding eqList isObject isCell isMarked hosted
+unfolding eqList isObject isCell hosted
 objects-written = refl
 
 -- the directory of the eight (1.13), a record to a line

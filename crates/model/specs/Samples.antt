@@ -15,14 +15,14 @@ use Rattle.lists.specs.First.{first, firstFrom}
 use Rattle.lists.specs.Picks.{picks}
 use Rattle.lists.specs.Equal.{eqList}
 use Rattle.lists.specs.Sets.{all, any, isEmpty, mem, meets}
-use Rattle.model.specs.Objects.{Object, ObjectKind, aMap, aRegister, theLayout, Shape, isObject, isCell, isMarked, hosted}
+use Rattle.model.specs.Objects.{Object, ObjectKind, aMap, aRegister, theLayout, Shape, isObject, isCell, hosted}
 use Rattle.model.specs.Entries.{Read, Held, Log, decisionIn, commitAt, ifSome, isNone, writesOf, stamps, astray, closed, decided, Decision, headerObjects, numberOf, earlier, commitObjects}
 use Rattle.model.specs.Slot.{writeBytes, writeAt, readBytes, readAt, savedBytes, savedAt, itemBytes, itemCount, headerOf, slotOf, decode, slot, logIn, objectsIn}
 use Rattle.model.specs.Rules.{okEntry, lowest, lowestBad, okWrite, okWrites, okRead, okReads, okSaved, narrow, goodAt, repeats}
 use Rattle.model.specs.Table.{Cell, Holds, cellAt, cellBytes, cellsOf, tableWith, capacity, apply, savedOf, versionIn, lookup, inOrder, store}
-use Rattle.model.specs.Play.{play, commitsOver, outcome, step}
+use Rattle.model.specs.Play.{play, commitsOver, outcome, step, waitsAt}
 use Rattle.model.specs.Answers.{Answer, done, refused, firstPlace, badFrame}
-use Rattle.model.specs.Reading.{Info, owed, entryCall, itemList, infoIn}
+use Rattle.model.specs.Reading.{Info, badSets, owes, owed, entryCall, itemList, infoIn}
 use Rattle.model.specs.Append.{Request, update, commits, decides, saves, entryOf, ownTests, append}
 use Rattle.model.specs.Replica.{Left, openFresh, openAt, playCall, readCell, audit, sameContent}
 use Rattle.model.specs.Run.{Run, start, current, accept, runAt}
@@ -50,12 +50,13 @@ pub record Turn : Type 0 where
   pub position : ℕ
 
 pub record Sample : Type 0 where
-  -- the appends; the tail that they leave; the audit's answer, with its offset; the lowest owed offset
+  -- the appends; the tail that they leave; the audit's answer, with its offset; declared sets, and the lowest offset that owes
   pub requests : List Request
   pub tail : ℕ
   pub audits : ℕ
   pub auditTells : Option ℕ
-  pub owes : Option ℕ
+  pub sets : List ℕ
+  pub owing : Option ℕ
   -- an opening, and plays with their answers
   pub opening : Opening
   pub turns : List Turn
@@ -109,6 +110,10 @@ abbrev pub blocked : Log → List ℕ → ℕ → Bool
 blocked log set q = ifSome (commitAt log q) false (λ c. meets set (commitObjects log q (c .number))
     && any (λ (x : Read). not (mem x.object set)) (c .condition .reads)
     && below (λ d. ifSome (decisionIn (log .entry d)) true (λ (r : Decision). not (eqb r.offset q))) (log .tail))
+
+-- OwesExactly, by that test
+abbrev pub owesHold : Log → List ℕ → Bool
+owesHold log sets = below (λ q. Bool·beq (owes small log sets q) (any (λ set. blocked log (hosted small set) q) sets)) (log .tail)
 
 -- Shows, with the next play of the sample
 abbrev pub waitsHold : Log → List ℕ → ℕ → ℕ → Left → Bool
@@ -183,7 +188,7 @@ sampleHolds m =
     eqb (log .tail) (m .tail)
     && isNone (lowestBad small log)
     && eqb (code (a .answer)) (m .audits) && sameOffset (tells (a .answer)) (m .auditTells)
-    && sameOffset (given (owed small log) none) (m .owes)
+    && sameOffset (given (owed small log (m .sets)) none) (m .owing) && owesHold log (m .sets)
     && (not (eqb (m .audits) 0) || showsHold m h log (opened small h (m .opening)))
 
 abbrev pub to : ℕ → ℕ → Turn
@@ -220,17 +225,17 @@ both = put 2 7 1 ++ put 5 1 2
 abbrev pub across : List Request
 across = update 9 both ∷ commits 9 (read 2 7 0) ∷ []
 
--- a log that the audit passes and that owes nothing, with an opening and plays
+-- a log that the audit passes, with an opening and plays; it owes a replica of everything nothing
 abbrev pub passes : List Request → ℕ → Opening → List Turn → Sample
-passes qs n o ts = record { requests = qs; tail = n; audits = 0; auditTells = none; owes = none; opening = o; turns = ts }
+passes qs n o ts = record { requests = qs; tail = n; audits = 0; auditTells = none; sets = 255 ∷ []; owing = none; opening = o; turns = ts }
 
 -- a log with a false record
 abbrev pub fails : List Request → ℕ → ℕ → Sample
-fails qs n f = record { requests = qs; tail = n; audits = 11; auditTells = some f; owes = none; opening = only5; turns = [] }
+fails qs n f = record { requests = qs; tail = n; audits = 11; auditTells = some f; sets = 255 ∷ []; owing = none; opening = only5; turns = [] }
 
--- a log that owes a decision, played whole
-abbrev pub owing : List Request → ℕ → ℕ → Sample
-owing qs n o = record { requests = qs; tail = n; audits = 0; auditTells = none; owes = some o; opening = all8; turns = to (length qs) n ∷ [] }
+-- a log that owes replicas of these sets a decision, played whole
+abbrev pub indebted : List ℕ → List Request → ℕ → ℕ → Sample
+indebted sets qs n o = record { requests = qs; tail = n; audits = 0; auditTells = none; sets = sets; owing = some o; opening = all8; turns = to (length qs) n ∷ [] }
 
 -- The mistakes that the worked logs do not show.
 abbrev pub mistakes : List Sample
@@ -241,10 +246,10 @@ mistakes =
     -- false records at two offsets
     ∷ fails (across ++ (decides 1 2 ∷ [])) 3 2
     ∷ fails (update 0 (put 2 7 4) ∷ save 1 (cell 2 7 (some 5) 1 ∷ []) ∷ []) 2 1
-    -- a decision owed
-    ∷ owing (update 9 (put 2 7 1) ∷ commits 9 (read 3 1 0) ∷ []) 2 1
+    -- a decision owed to the second set alone
+    ∷ indebted (4 ∷ 2 ∷ []) (update 9 (put 2 7 1) ∷ commits 9 (read 3 1 0) ∷ []) 2 1
     ∷ []
 
 pub mistakes-shown : all sampleHolds mistakes ≡ true
-unfolding sampleHolds beAt bytesOf splice values joined first firstFrom picks eqList writesOf stamps astray closed decided headerObjects earlier writeBytes writeAt readBytes readAt savedBytes savedAt itemBytes itemCount headerOf slotOf decode slot logIn okEntry lowest lowestBad cellAt cellBytes cellsOf tableWith apply savedOf play commitsOver owed entryCall itemList infoIn entryOf firstPlace ownTests append openFresh openAt playCall readCell audit accept runAt grown feed isObject isCell isMarked hosted okWrite okWrites okRead okReads okSaved narrow goodAt lookup inOrder store step badFrame objectsIn repeats
+unfolding sampleHolds beAt bytesOf splice values joined first firstFrom picks eqList writesOf stamps astray closed decided headerObjects earlier writeBytes writeAt readBytes readAt savedBytes savedAt itemBytes itemCount headerOf slotOf decode slot logIn okEntry lowest lowestBad cellAt cellBytes cellsOf tableWith apply savedOf play commitsOver waitsAt badSets owes owed entryCall itemList infoIn entryOf firstPlace ownTests append openFresh openAt playCall readCell audit accept runAt grown feed isObject isCell hosted okWrite okWrites okRead okReads okSaved narrow goodAt lookup inOrder store step badFrame objectsIn repeats
 mistakes-shown = refl

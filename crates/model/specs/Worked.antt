@@ -14,16 +14,16 @@ use Rattle.lists.specs.Picks.{picks}
 use Rattle.lists.specs.First.{first, firstFrom}
 use Rattle.lists.specs.Equal.{eqList}
 use Rattle.lists.specs.Sets.{all}
-use Rattle.model.specs.Objects.{aMap, aRegister, theObjects, theLayout, depots, Shape, everything, isObject, isCell, isMarked, hosted}
+use Rattle.model.specs.Objects.{aMap, aRegister, theObjects, theLayout, depots, Shape, everything, isObject, isCell, hosted}
 use Rattle.model.specs.Entries.{checkpoint, Log, writesOf, stamps, astray, closed, decided, headerObjects, numberOf, earlier}
 use Rattle.model.specs.Slot.{headersBegin, headerSize, itemsBegin, distanceTo, headerWith, writeBytes, writeAt, readBytes, readAt, savedBytes, savedAt, itemBytes, itemCount, headerOf, slotOf, decode, slot, logIn, objectsIn}
 use Rattle.model.specs.Headers.{BackPointer, nothing, at as entryAt, past, formatAt, backsAt, dueFormat, dueBacks}
 use Rattle.model.specs.Rules.{okEntry, lowest, lowestBad, okWrite, okWrites, okRead, okReads, okSaved, narrow, goodAt, repeats}
 use Rattle.model.specs.Directory.{recordSize, recordAt, okRecord, atFault, shapeOf, recordBytes, directoryOf, listedIn, faultOf}
 use Rattle.model.specs.Table.{Cell, cellSize, cellAt, cellBytes, cellsOf, tableWith, apply, savedOf, cellOf, lookup, inOrder, store}
-use Rattle.model.specs.Play.{play, commitsOver, step}
+use Rattle.model.specs.Play.{play, commitsOver, step, waitsAt}
 use Rattle.model.specs.Answers.{Answer, done, refused, firstPlace, badFrame}
-use Rattle.model.specs.Reading.{check, owed, entryCall, infoIn, itemList, streamNext, streamList, offsetsOf}
+use Rattle.model.specs.Reading.{check, badSets, owes, owed, entryCall, infoIn, itemList, streamNext, streamList, offsetsOf}
 use Rattle.model.specs.Append.{Replica, Request, update, commits, decides, saves, entryOf, ownTests, append}
 use Rattle.model.specs.Replica.{Left, unopened, openFresh, openAt, playCall, readCell, sameContent, audit}
 use Rattle.model.specs.Report.{Outcome, outcomes, report}
@@ -108,6 +108,8 @@ pub data Row : Type 0 where
   headed : ℕ → ℕ → List ℕ → List ℕ → Row
   -- a directory, and what every call with arguments that are all bad is answered, in the order of `allCalls`
   judged : List ℕ → List ℕ → Row
+  -- a directory, the appends made with it, a tail, declared sets, and what owed answers, with the offset that owes or what is told
+  owing : List ℕ → List Request → ℕ → List ℕ → ℕ → Option ℕ → Row
 
 -- 0 for done, else the number of a refusal
 abbrev pub code : {A : Type 0} → Answer A → ℕ
@@ -118,6 +120,11 @@ code (refused r) = r .number
 abbrev pub tells : {A : Type 0} → Answer A → Option ℕ
 tells (done a) = none
 tells (refused r) = r .told
+
+-- the offset that owes, or what a refusal tells
+abbrev pub offsetOwed : Answer (Option ℕ) → Option ℕ
+offsetOwed (done o) = o
+offsetOwed (refused r) = r .told
 
 abbrev pub sameOffset : Option ℕ → Option ℕ → Bool
 sameOffset x y = sameContent x y
@@ -175,7 +182,7 @@ allCalls sh =
     let l : Lent = record { bytes = replicate 255 7; tail = 1 } in
     let r : Replica = record { hosting = 0; position = 2; count = 1 } in
     let log = inLog sh l in
-    code (check sh log) ∷ code (owed sh log) ∷ code (entryCall sh log 1) ∷ length (itemList sh log 0)
+    code (check sh log) ∷ code (owed sh log (0 ∷ [])) ∷ code (entryCall sh log 1) ∷ length (itemList sh log 0)
     ∷ code (streamNext sh log 0 0 .found) ∷ code (streamList sh log 0 [] .count)
     ∷ code (append sh (l .bytes) (l .tail) (update 0 []) .newTail) ∷ code (append sh (l .bytes) (l .tail) (commits 0 []) .newTail)
     ∷ code (append sh (l .bytes) (l .tail) (decides 1 0) .newTail) ∷ code (append sh (l .bytes) (l .tail) (saves r [] 0) .newTail)
@@ -221,6 +228,11 @@ rowHolds (both d qs set n e every cs) =
 rowHolds (opensAt d qs o r) = let sh = shapeOf d in sameReplica (openAt sh (inLog sh (logWith sh qs)) o (lentTable 24) .replica) r
 rowHolds (headed p x qs h) = eqList (headerWith theLayout p x qs) h
 rowHolds (judged d codes) = eqList (allCalls (shapeOf d)) codes
+rowHolds (owing d qs tail sets a o) =
+    let sh = shapeOf d in
+    let l = logWith sh qs in
+    let x = owed sh (inLog sh (record { bytes = l .bytes; tail = tail })) sets in
+    eqb (code x) a && sameOffset (offsetOwed x) o
 rowHolds (spoilt qs i bs a o) =
     let l = over (logBy 6 qs) i bs in
     let x = check depots (inLog depots l) in
@@ -263,7 +275,7 @@ rows =
     ∷ []
 
 pub worked : all rowHolds rows ≡ true
-unfolding rowHolds beAt bytesOf splice values joined first firstFrom eqList writesOf stamps astray closed decided headerObjects earlier writeBytes writeAt readBytes readAt savedBytes savedAt itemBytes itemCount headerOf slotOf decode slot logIn okEntry lowest lowestBad cellAt cellBytes cellsOf tableWith apply savedOf play commitsOver entryOf firstPlace ownTests append openFresh playCall audit outcomes report grown isObject isCell isMarked hosted okWrite okWrites okRead okReads okSaved narrow goodAt lookup inOrder store step badFrame objectsIn repeats
+unfolding rowHolds beAt bytesOf splice values joined first firstFrom eqList writesOf stamps astray closed decided headerObjects earlier writeBytes writeAt readBytes readAt savedBytes savedAt itemBytes itemCount headerOf slotOf decode slot logIn okEntry lowest lowestBad cellAt cellBytes cellsOf tableWith apply savedOf play commitsOver entryOf firstPlace ownTests append openFresh playCall audit outcomes report grown isObject isCell hosted okWrite okWrites okRead okReads okSaved narrow goodAt lookup inOrder store step badFrame objectsIn repeats
 worked = refl
 
 -- ---- a table in cell order
@@ -408,7 +420,7 @@ later =
     ∷ []
 
 pub later-worked : all rowHolds later ≡ true
-unfolding rowHolds beAt bytesOf splice values joined first firstFrom eqList writesOf stamps astray closed decided headerObjects earlier writeBytes writeAt readBytes readAt savedBytes savedAt itemBytes itemCount headerOf slotOf decode slot logIn okEntry lowest lowestBad cellAt cellBytes cellsOf tableWith apply savedOf play commitsOver entryOf firstPlace ownTests append openFresh playCall readCell audit outcomes report grown isObject isCell isMarked hosted okWrite okWrites okRead okReads okSaved narrow goodAt lookup inOrder store step badFrame objectsIn repeats backsAt check
+unfolding rowHolds beAt bytesOf splice values joined first firstFrom eqList writesOf stamps astray closed decided headerObjects earlier writeBytes writeAt readBytes readAt savedBytes savedAt itemBytes itemCount headerOf slotOf decode slot logIn okEntry lowest lowestBad cellAt cellBytes cellsOf tableWith apply savedOf play commitsOver entryOf firstPlace ownTests append openFresh playCall readCell audit outcomes report grown isObject isCell hosted okWrite okWrites okRead okReads okSaved narrow goodAt lookup inOrder store step badFrame objectsIn repeats backsAt check
 later-worked = refl
 
 -- ---- directories
@@ -516,5 +528,78 @@ handedOver =
     ∷ []
 
 pub handed-over : all rowHolds handedOver ≡ true
-unfolding rowHolds beAt bytesOf splice values joined first firstFrom picks eqList writesOf stamps astray closed decided headerObjects earlier writeBytes writeAt readBytes readAt savedBytes savedAt itemBytes itemCount headerOf slotOf decode slot logIn okEntry lowest lowestBad recordAt okRecord atFault listedIn faultOf recordBytes directoryOf cellAt cellBytes cellsOf tableWith apply savedOf play commitsOver entryOf firstPlace ownTests append openFresh openAt playCall readCell audit grown isObject isCell isMarked hosted okWrite okWrites okRead okReads okSaved narrow goodAt lookup inOrder store step badFrame objectsIn repeats check owed entryCall infoIn itemList streamNext streamList offsetsOf
+unfolding rowHolds beAt bytesOf splice values joined first firstFrom picks eqList writesOf stamps astray closed decided headerObjects earlier writeBytes writeAt readBytes readAt savedBytes savedAt itemBytes itemCount headerOf slotOf decode slot logIn okEntry lowest lowestBad recordAt okRecord atFault listedIn faultOf recordBytes directoryOf cellAt cellBytes cellsOf tableWith apply savedOf play commitsOver entryOf firstPlace ownTests append openFresh openAt playCall readCell audit grown isObject isCell hosted okWrite okWrites okRead okReads okSaved narrow goodAt lookup inOrder store step badFrame objectsIn repeats check waitsAt badSets owes owed entryCall infoIn itemList streamNext streamList offsetsOf
 handed-over = refl
+
+-- ---- decisions owed
+
+-- object 5 is written twice, by transactions that read objects 2 and 3
+abbrev two5 : List Request
+two5 = only5 ++ (update 10 (put 5 1 7) ∷ commits 10 (read 3 1 0) ∷ [])
+
+-- objects 2, 5 and 6 are written, by one that reads a cell of each object, and more of object 1
+abbrev reads8 : List Request
+reads8 =
+    update 9 (put 2 7 1 ++ put 5 1 6 ++ put 6 0 1)
+    ∷ commits 9 (read 1 0 0 ++ read 1 1 0 ++ read 1 2 0 ++ read 1 3 0 ++ read 1 4 0 ++ read 2 7 0 ++ read 3 1 0 ++ read 4 1 0 ++ read 5 1 0 ++ read 6 0 0 ++ read 7 0 0 ++ read 8 0 0)
+    ∷ []
+
+-- the clinics' last map is written, by one that reads the first
+abbrev last3 : List Request
+last3 = update 9 (put highestId 0 1) ∷ commits 9 (read 10 0 0) ∷ []
+
+abbrev pub debts : List Row
+debts =
+    -- to one that hosts object 5 and not what was read; not to one that hosts both, or not 5; to none declared nothing
+    owing eight only5 2 (16 ∷ []) 0 (some 1)
+    ∷ owing eight only5 2 (18 ∷ []) 0 none
+    ∷ owing eight only5 2 (2 ∷ []) 0 none
+    ∷ owing eight only5 2 [] 0 none
+    -- to the first or the second of two
+    ∷ owing eight only5 2 (16 ∷ 18 ∷ []) 0 (some 1)
+    ∷ owing eight only5 2 (18 ∷ 16 ∷ []) 0 (some 1)
+    -- each set by itself: two together have 5 and what was read; one has 5, and the other not what was read
+    ∷ owing eight only5 2 (16 ∷ 2 ∷ []) 0 (some 1)
+    ∷ owing eight only5 2 (18 ∷ 4 ∷ []) 0 none
+    -- before the commit record; a decision record pays, a false one too
+    ∷ owing eight only5 1 (16 ∷ []) 0 none
+    ∷ owing eight (only5 ++ (decides 1 1 ∷ [])) 3 (16 ∷ []) 0 none
+    ∷ owing eight (only5 ++ (decides 1 2 ∷ [])) 3 (16 ∷ []) 0 none
+    ∷ owing eight (only5 ++ (decides 1 1 ∷ [])) 2 (16 ∷ []) 0 (some 1)
+    -- the lowest of two; the other, where the first is paid or owes this set nothing
+    ∷ owing eight two5 4 (16 ∷ []) 0 (some 1)
+    ∷ owing eight (two5 ++ (decides 1 1 ∷ [])) 5 (16 ∷ []) 0 (some 3)
+    ∷ owing eight (two5 ++ (decides 3 1 ∷ [])) 5 (16 ∷ []) 0 (some 1)
+    ∷ owing eight two5 4 (18 ∷ []) 0 (some 3)
+    ∷ owing eight two5 4 (20 ∷ 18 ∷ []) 0 (some 1)
+    ∷ owing eight two5 4 (22 ∷ []) 0 none
+    -- a read of a marked object: to everything nothing
+    ∷ owing eight two5 4 (255 ∷ []) 0 none
+    -- twelve reads of eight objects: each set lacks one of them, and the last has none of the headers
+    ∷ owing eight reads8 2 (254 ∷ 127 ∷ 253 ∷ []) 0 (some 1)
+    ∷ owing eight reads8 2 (255 ∷ 127 ∷ []) 0 (some 1)
+    ∷ owing eight reads8 2 (255 ∷ 205 ∷ []) 0 none
+    -- a commit without reads
+    ∷ owing eight (update 9 (put 5 1 6) ∷ commits 9 [] ∷ []) 2 (16 ∷ []) 0 none
+    -- sixteen sets and seventeen; an empty one; bits past the directory, in the first set and in the last
+    ∷ owing eight only5 2 (replicate 16 16) 0 (some 1)
+    ∷ owing eight only5 2 (replicate 17 16) 3 none
+    ∷ owing eight only5 2 (0 ∷ 16 ∷ []) 3 none
+    ∷ owing eight only5 2 (16 ∷ 0 ∷ []) 3 none
+    ∷ owing eight only5 2 (256 ∷ []) 3 none
+    ∷ owing eight only5 2 (272 ∷ 16 ∷ []) 3 none
+    ∷ owing eight only5 2 (16 ∷ 18446744073709551615 ∷ []) 3 none
+    -- sets by place: bit 2 is the clinics' third object, and bit 3 is past the last
+    ∷ owing clinics last3 2 (4 ∷ []) 0 (some 1)
+    ∷ owing clinics last3 2 (5 ∷ []) 0 none
+    ∷ owing clinics last3 2 (8 ∷ []) 3 none
+    -- 15, 1 and 2 come before 3
+    ∷ owing (take 127 eight) [] 0 (0 ∷ []) 15 (some 7)
+    ∷ owing eight only5 7 (0 ∷ []) 1 none
+    ∷ owing eight only5 3 (0 ∷ []) 2 (some 2)
+    ∷ owing eight only5 3 (replicate 17 16) 2 (some 2)
+    ∷ []
+
+pub debts-worked : all rowHolds debts ≡ true
+unfolding rowHolds beAt bytesOf splice values joined first firstFrom picks eqList writesOf stamps astray closed decided headerObjects earlier writeBytes writeAt readBytes readAt savedBytes savedAt itemBytes itemCount headerOf slotOf decode slot logIn okEntry lowest lowestBad recordAt okRecord atFault listedIn faultOf recordBytes directoryOf cellAt cellBytes cellsOf tableWith apply savedOf play commitsOver entryOf firstPlace ownTests append openFresh openAt playCall readCell audit grown isObject isCell hosted okWrite okWrites okRead okReads okSaved narrow goodAt lookup inOrder store step badFrame objectsIn repeats check waitsAt badSets owes owed entryCall infoIn itemList streamNext streamList offsetsOf
+debts-worked = refl

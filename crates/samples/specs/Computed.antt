@@ -12,20 +12,20 @@ use Rattle.lists.specs.First.{first, firstFrom}
 use Rattle.lists.specs.Picks.{picks}
 use Rattle.lists.specs.Equal.{eqList}
 use Rattle.lists.specs.Sets.{all}
-use Rattle.model.specs.Objects.{isObject, isCell, isMarked, hosted}
+use Rattle.model.specs.Objects.{isObject, isCell, hosted}
 use Rattle.model.specs.Entries.{writesOf, stamps, astray, closed, decided, headerObjects, numberOf, earlier}
 use Rattle.model.specs.Slot.{writeBytes, writeAt, readBytes, readAt, savedBytes, savedAt, itemBytes, itemCount, headerOf, slotOf, decode, slot, logIn, objectsIn}
 use Rattle.model.specs.Rules.{okEntry, lowest, lowestBad, okWrite, okWrites, okRead, okReads, okSaved, narrow, goodAt, repeats}
 use Rattle.model.specs.Table.{cellAt, cellBytes, cellsOf, tableWith, apply, savedOf, lookup, inOrder, store}
-use Rattle.model.specs.Play.{play, commitsOver, step}
+use Rattle.model.specs.Play.{play, commitsOver, step, waitsAt}
 use Rattle.model.specs.Answers.{firstPlace, badFrame}
-use Rattle.model.specs.Reading.{owed, entryCall, itemList, infoIn}
+use Rattle.model.specs.Reading.{badSets, owes, owed, entryCall, itemList, infoIn}
 use Rattle.model.specs.Append.{Request, update, commits, decides, entryOf, ownTests, append}
 use Rattle.model.specs.Replica.{openFresh, openAt, playCall, readCell, audit}
 use Rattle.model.specs.Run.{accept, runAt}
 use Rattle.model.specs.Histories.{empty, grown, feed, fresh, atCheckpoint}
 use Rattle.model.specs.Worked.{put, remove, read, cell}
-use Rattle.model.specs.Samples.{small, Sample, sampleHolds, backsHold, to, but, five, one, all8, only2, only5, save, both, across, passes, fails, owing}
+use Rattle.model.specs.Samples.{small, Sample, sampleHolds, backsHold, to, but, five, one, all8, only2, only5, save, both, across, passes, fails, indebted}
 
 abbrev bench : List Request
 bench = update 0 (put 2 7 43) ∷ update 9 (put 2 7 42) ∷ update 10 (put 2 7 40) ∷ commits 9 (read 2 7 1) ∷ commits 10 (read 2 7 1) ∷ []
@@ -66,9 +66,9 @@ checkpoints =
 -- Owed decisions, refused appends.
 abbrev pub refusing : List Sample
 refusing =
-    -- a commit that reads a marked object owes a decision; the lowest; not once it is paid; not for an unmarked object
-    owing (update 9 (put 2 7 1) ∷ commits 9 (read 3 1 0) ∷ update 10 (put 2 7 1) ∷ commits 10 (read 4 1 0) ∷ []) 4 1
-    ∷ owing (update 9 (put 2 7 1) ∷ commits 9 (read 3 1 0) ∷ update 10 (put 2 7 1) ∷ commits 10 (read 4 1 0) ∷ decides 1 1 ∷ []) 5 3
+    -- a commit that reads outside a set with an object of its headers owes a decision; the lowest; not once it is paid; nothing to everything
+    indebted (2 ∷ []) (update 9 (put 2 7 1) ∷ commits 9 (read 3 1 0) ∷ update 10 (put 2 7 1) ∷ commits 10 (read 4 1 0) ∷ []) 4 1
+    ∷ indebted (16 ∷ 2 ∷ []) (update 9 (put 2 7 1) ∷ commits 9 (read 3 1 0) ∷ update 10 (put 2 7 1) ∷ commits 10 (read 4 1 0) ∷ decides 1 1 ∷ []) 5 3
     ∷ passes (update 9 (put 2 7 1) ∷ commits 9 (read 5 1 0) ∷ []) 2 all8 (to 2 1 ∷ [])
     -- refused: a key too high, a fifth object, a commit without update, a closed number, no commit record, a second decision
     ∷ passes (update 0 (put 2 10 1) ∷ update 9 (put 1 0 1 ++ put 2 0 1 ++ put 3 0 1 ++ put 4 0 1) ∷ update 9 (put 5 0 1) ∷ commits 8 [] ∷ commits 9 []
@@ -83,17 +83,17 @@ abbrev pub written : List Request
 written = update 0 (put 2 7 4 ++ remove 5 1) ∷ update 9 both ∷ commits 9 (read 1 1 0 ++ read 2 7 1) ∷ decides 2 1 ∷ save 4 (cell 2 7 (some 1) 3 ∷ []) ∷ []
 
 pub written-back : backsHold (empty (replicate (small .layout .slotSize * 5) 7)) written ≡ true
-unfolding beAt bytesOf splice values joined first firstFrom picks eqList writesOf stamps astray closed decided headerObjects earlier writeBytes writeAt readBytes readAt savedBytes savedAt itemBytes itemCount headerOf slotOf decode slot logIn okEntry lowest lowestBad cellAt cellBytes cellsOf tableWith apply savedOf play commitsOver owed entryCall itemList infoIn entryOf firstPlace ownTests append openFresh openAt playCall readCell audit accept runAt grown feed isObject isCell isMarked hosted okWrite okWrites okRead okReads okSaved narrow goodAt lookup inOrder store step badFrame objectsIn repeats
+unfolding beAt bytesOf splice values joined first firstFrom picks eqList writesOf stamps astray closed decided headerObjects earlier writeBytes writeAt readBytes readAt savedBytes savedAt itemBytes itemCount headerOf slotOf decode slot logIn okEntry lowest lowestBad cellAt cellBytes cellsOf tableWith apply savedOf play commitsOver waitsAt badSets owes owed entryCall itemList infoIn entryOf firstPlace ownTests append openFresh openAt playCall readCell audit accept runAt grown feed isObject isCell hosted okWrite okWrites okRead okReads okSaved narrow goodAt lookup inOrder store step badFrame objectsIn repeats
 written-back = refl
 
 pub playing-hold : all sampleHolds playing ≡ true
-unfolding sampleHolds beAt bytesOf splice values joined first firstFrom picks eqList writesOf stamps astray closed decided headerObjects earlier writeBytes writeAt readBytes readAt savedBytes savedAt itemBytes itemCount headerOf slotOf decode slot logIn okEntry lowest lowestBad cellAt cellBytes cellsOf tableWith apply savedOf play commitsOver owed entryCall itemList infoIn entryOf firstPlace ownTests append openFresh openAt playCall readCell audit accept runAt grown feed isObject isCell isMarked hosted okWrite okWrites okRead okReads okSaved narrow goodAt lookup inOrder store step badFrame objectsIn repeats
+unfolding sampleHolds beAt bytesOf splice values joined first firstFrom picks eqList writesOf stamps astray closed decided headerObjects earlier writeBytes writeAt readBytes readAt savedBytes savedAt itemBytes itemCount headerOf slotOf decode slot logIn okEntry lowest lowestBad cellAt cellBytes cellsOf tableWith apply savedOf play commitsOver waitsAt badSets owes owed entryCall itemList infoIn entryOf firstPlace ownTests append openFresh openAt playCall readCell audit accept runAt grown feed isObject isCell hosted okWrite okWrites okRead okReads okSaved narrow goodAt lookup inOrder store step badFrame objectsIn repeats
 playing-hold = refl
 
 pub checkpoints-hold : all sampleHolds checkpoints ≡ true
-unfolding sampleHolds beAt bytesOf splice values joined first firstFrom picks eqList writesOf stamps astray closed decided headerObjects earlier writeBytes writeAt readBytes readAt savedBytes savedAt itemBytes itemCount headerOf slotOf decode slot logIn okEntry lowest lowestBad cellAt cellBytes cellsOf tableWith apply savedOf play commitsOver owed entryCall itemList infoIn entryOf firstPlace ownTests append openFresh openAt playCall readCell audit accept runAt grown feed isObject isCell isMarked hosted okWrite okWrites okRead okReads okSaved narrow goodAt lookup inOrder store step badFrame objectsIn repeats
+unfolding sampleHolds beAt bytesOf splice values joined first firstFrom picks eqList writesOf stamps astray closed decided headerObjects earlier writeBytes writeAt readBytes readAt savedBytes savedAt itemBytes itemCount headerOf slotOf decode slot logIn okEntry lowest lowestBad cellAt cellBytes cellsOf tableWith apply savedOf play commitsOver waitsAt badSets owes owed entryCall itemList infoIn entryOf firstPlace ownTests append openFresh openAt playCall readCell audit accept runAt grown feed isObject isCell hosted okWrite okWrites okRead okReads okSaved narrow goodAt lookup inOrder store step badFrame objectsIn repeats
 checkpoints-hold = refl
 
 pub refusing-hold : all sampleHolds refusing ≡ true
-unfolding sampleHolds beAt bytesOf splice values joined first firstFrom picks eqList writesOf stamps astray closed decided headerObjects earlier writeBytes writeAt readBytes readAt savedBytes savedAt itemBytes itemCount headerOf slotOf decode slot logIn okEntry lowest lowestBad cellAt cellBytes cellsOf tableWith apply savedOf play commitsOver owed entryCall itemList infoIn entryOf firstPlace ownTests append openFresh openAt playCall readCell audit accept runAt grown feed isObject isCell isMarked hosted okWrite okWrites okRead okReads okSaved narrow goodAt lookup inOrder store step badFrame objectsIn repeats
+unfolding sampleHolds beAt bytesOf splice values joined first firstFrom picks eqList writesOf stamps astray closed decided headerObjects earlier writeBytes writeAt readBytes readAt savedBytes savedAt itemBytes itemCount headerOf slotOf decode slot logIn okEntry lowest lowestBad cellAt cellBytes cellsOf tableWith apply savedOf play commitsOver waitsAt badSets owes owed entryCall itemList infoIn entryOf firstPlace ownTests append openFresh openAt playCall readCell audit accept runAt grown feed isObject isCell hosted okWrite okWrites okRead okReads okSaved narrow goodAt lookup inOrder store step badFrame objectsIn repeats
 refusing-hold = refl
