@@ -2,7 +2,7 @@
 -- directory's bytes.
 use Prim.Native.Nat.{ℕ, suc, _+_, _-_, _*_, _/_, _%_, _^_, _≤_, _<_}
 use mathlib.Core.Path.{_≡_, refl, ap, ap₂, sym, subst, _∙_}
-use mathlib.Core.Bool.{Bool, true, false, not, _&&_, _||_}
+use mathlib.Core.Bool.{Bool, true, false, cond, not, _&&_, _||_}
 use mathlib.Core.List.{List, [], _∷_, _++_, append-nil}
 use native.Mathlib.Nat.{pow-succ', pow-le-pow-right}
 use native.Mathlib.Omega.{arith}
@@ -14,11 +14,12 @@ use lib.ListN.{length, length-append}
 use lib.Seq.{append-snoc}
 use borrow.Author.Tests.{eq-eqb, ne-eqb, ltb-true, lt-ltb, le-ltb}
 use Rattle.lists.specs.Sets.{mem, isEmpty, ascending, ascendingSet}
-use Rattle.model.specs.Objects.{Object, Shape, isObject, setOf, hostedBy, hosted, everything, badSet}
+use Rattle.model.specs.Objects.{Object, Shape, isObject, setOf, hostedBy, hosted, everyBit, everything, badSet}
 use Rattle.model.specs.Terms.{Listed}
 use Rattle.model.specs.Directory.{recordSize, idAt, listedIn, shapeOf}
 use Rattle.laws.specs.Ruled.{Ruled, records, PlaceOf}
 use Rattle.laws.proofs.ByPlace.{whole, how-many, id-at, few-records, everything-at, bits-past, no-bits-past, object-by, hosted-by, only-by, set-by}
+use Rattle.laws.proofs.Items.{idsOf}
 use Rattle.laws.proofs.Records.{ids-ascend}
 use Rattle.laws.proofs.Directory.{every-bit, bit-listed}
 use Rattle.laws.proofs.Directory as laws
@@ -200,6 +201,17 @@ only-one {d} {o} {k} r p e =
     subst (Only d o) b (record { set = sym s; one = only-by r p l; listed = omega (arith, s, bit-listed (shapeOf d .objects) o, every-bit (shapeOf d .objects)) })
 
 -- ---- the set of all objects
+
+pub every-hosted : (bs : List Object) → hostedBy bs (everyBit bs) ≡ idsOf bs
+every-hosted [] = refl
+every-hosted (b ∷ bs) =
+    let odd : (1 + 2 * everyBit bs) % 2 ≡ 1 = omega arith in
+    let half : (1 + 2 * everyBit bs) / 2 ≡ everyBit bs = omega arith in
+    ap₂ (λ (x y : ℕ). cond (eqb x 1) (b .id ∷ hostedBy bs y) (hostedBy bs y)) odd half ∙ ap (λ (xs : List ℕ). b .id ∷ xs) (every-hosted bs)
+
+pub hosts-all : (sh : Shape) (x : ℕ) → mem x (hosted sh (everything sh)) ≡ isObject sh x
+unfolding hosted isObject
+hosts-all sh x = ap (mem x) (every-hosted (sh .objects))
 
 pub all-full : {d : List ℕ} → Ruled d → (n : ℕ) → n ≡ records d → 64 ≤ n → 2 ^ 64 - 1 ≡ everything (shapeOf d)
 all-full {d} r n e l =

@@ -1,6 +1,6 @@
 // What is asked of an object, answered by what stands at its place.
 ghost use mathlib.Core.Path.{_≡_};
-ghost use Rattle.model.specs.Objects.{isObject, isCell, isMarked};
+ghost use Rattle.model.specs.Objects.{isObject, isCell};
 ghost use Rattle.model.specs.Directory.{shapeOf};
 ghost use Rattle.laws.specs.Ruled.{Ruled};
 use codec::names::ObjectId;
@@ -21,15 +21,4 @@ pub fn is_cell(dir: &[u8], id: ObjectId, key: u32) -> bool
         return false;
     }
     key <= crate::places::highest_at(dir, k)
-}
-
-pub fn is_marked(dir: &[u8], id: ObjectId) -> bool
-    requires { ⌜ Ruled (now dir) ⌝ }
-    ensures { λ r. ⌜ r ≡ isMarked (shapeOf (now (dir .entry))) (id .0) ⌝ }
-{
-    let k = crate::places::place_of(dir, id);
-    if crate::places::count(dir) <= k {
-        return false;
-    }
-    crate::places::is_marked_at(dir, k)
 }

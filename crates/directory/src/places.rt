@@ -10,8 +10,6 @@ ghost use Rattle.directory.specs.Places.{isMap, Searched};
 use crate::layout::HIGHEST_BEGINS;
 use crate::layout::ID_BEGINS;
 use crate::layout::KIND_BEGINS;
-use crate::layout::MARKED;
-use crate::layout::MARKED_BEGINS;
 use crate::layout::RECORD_SIZE;
 use crate::layout::REGISTER;
 use codec::names::ObjectId;
@@ -44,13 +42,6 @@ pub fn is_map_at(dir: &[u8], k: usize) -> bool
     ensures { λ r. ⌜ r ≡ isMap (recordAt (now (dir .entry)) (recordSize * k) .kind) ⌝ }
 {
     codec::bytes::be8(dir, RECORD_SIZE * k + KIND_BEGINS) != REGISTER
-}
-
-pub fn is_marked_at(dir: &[u8], k: usize) -> bool
-    requires { ⌜ k < records (now dir) ⌝ }
-    ensures { λ r. ⌜ r ≡ recordAt (now (dir .entry)) (recordSize * k) .marked ⌝ }
-{
-    codec::bytes::be8(dir, RECORD_SIZE * k + MARKED_BEGINS) == MARKED
 }
 
 // The object stands at place k.

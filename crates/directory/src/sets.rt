@@ -6,7 +6,7 @@ ghost use mathlib.Core.List.{List};
 ghost use Prim.Native.Nat.{ℕ, _≤_};
 ghost use lib.Dec.{ltb};
 ghost use lib.ListN.{length};
-ghost use Rattle.lists.specs.Sets.{mem};
+ghost use Rattle.lists.specs.Sets.{mem, meets, within};
 ghost use Rattle.model.specs.Objects.{isObject, hosted, everything, badSet};
 ghost use Rattle.model.specs.Terms.{Listed};
 ghost use Rattle.model.specs.Directory.{shapeOf};
@@ -56,6 +56,20 @@ pub fn with(dir: &[u8], set: u64, id: ObjectId) -> u64
     ensures { λ r. ⌜ SetWith (now (dir .entry)) set (id .0) r ⌝ }
 {
     union(set, only(dir, id))
+}
+
+// Two sets have an object in common, in every directory that has a record for each bit of the second.
+pub fn share(a: u64, b: u64) -> bool
+    ensures { λ r. ⌜ ((d : List ℕ) → Ruled d → Listed (shapeOf d) b → r ≡ meets (hosted (shapeOf d) a) (hosted (shapeOf d) b)) ⌝ }
+{
+    (a & b) != 0
+}
+
+// The first set has all objects of the second, in every such directory.
+pub fn has_all(a: u64, b: u64) -> bool
+    ensures { λ r. ⌜ ((d : List ℕ) → Ruled d → Listed (shapeOf d) b → r ≡ within (hosted (shapeOf d) a) (hosted (shapeOf d) b)) ⌝ }
+{
+    (a & b) == b
 }
 
 // How many objects the set has.

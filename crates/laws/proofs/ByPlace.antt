@@ -12,7 +12,7 @@ use lib.ListN.{length, getD}
 use Rattle.lists.specs.Tests.{and-l, or-false, clash}
 use Rattle.lists.specs.Rows.{values, length-values, getD-values, map-values}
 use Rattle.lists.specs.Sets.{any, mem, ascending, rest-ascends}
-use Rattle.model.specs.Objects.{Object, Shape, ids, isObject, isCell, isMarked, hostedBy, hosted, bitOf, setOf, everything, badSet}
+use Rattle.model.specs.Objects.{Object, Shape, ids, isObject, isCell, hostedBy, hosted, bitOf, setOf, everything, badSet}
 use Rattle.model.specs.Directory.{recordSize, mostRecords, idAt, recordAt, shapeOf, listedIn, faultOf}
 use Rattle.laws.specs.Ruled.{Ruled, records, PlaceOf}
 use Rattle.laws.proofs.Items.{idsOf}
@@ -101,14 +101,6 @@ module _ (d : List ℕ) (n : ℕ) (w : Whole d n) where
         (λ j l m q. ap (λ (t : Bool). t && leb key (highestOf d j)) (apart j k (omega arith) h q))
         ∙ ap (λ (t : Bool). t && leb key (highestOf d k)) (eq-eqb (idOf d k) (idOf d k) refl)
 
-    pub marked-at : isMarked (shapeOf d) (idOf d k) ≡ placed d k .marked
-    unfolding isMarked recordAt
-    marked-at =
-        ap (any (λ (b : Object). eqb b.id (idOf d k) && b.marked)) objects-are
-        ∙ any-at (λ (b : Object). eqb b.id (idOf d k) && b.marked) (placed d) 0 n k (omega arith) (omega arith)
-        (λ j l m q. ap (λ (t : Bool). t && placed d j .marked) (apart j k (omega arith) h q))
-        ∙ ap (λ (t : Bool). t && placed d k .marked) (eq-eqb (idOf d k) (idOf d k) refl)
-
   -- of a number that stands at no place
   module _ (o : ℕ) (none : (j : ℕ) → j < n → idOf d j ≡ o → ⊥) where
     other : (j : ℕ) → j < n → eqb (idOf d j) o ≡ false
@@ -125,12 +117,6 @@ module _ (d : List ℕ) (n : ℕ) (w : Whole d n) where
     no-cell key =
         ap (any (λ (b : Object). eqb b.id o && leb key b.highest)) objects-are
         ∙ any-none (λ (b : Object). eqb b.id o && leb key b.highest) (placed d) 0 n (λ j l m. ap (λ (t : Bool). t && leb key (highestOf d j)) (other j (omega arith)))
-
-    pub no-mark : isMarked (shapeOf d) o ≡ false
-    unfolding isMarked recordAt
-    no-mark =
-        ap (any (λ (b : Object). eqb b.id o && b.marked)) objects-are
-        ∙ any-none (λ (b : Object). eqb b.id o && b.marked) (placed d) 0 n (λ j l m. ap (λ (t : Bool). t && placed d j .marked) (other j (omega arith)))
 
   -- a search in order ends between two places
   pub none-between : (o k : ℕ) → k ≤ n → ((j : ℕ) → j < k → idOf d j < o) → (k < n → o < idOf d k) → (j : ℕ) → j < n → idOf d j ≡ o → ⊥
@@ -296,11 +282,6 @@ module _ {d : List ℕ} (r : Ruled d) where
     cell-by key = by-place
         (λ e h. ap (λ (x : ℕ). isCell (shapeOf d) x key) (sym (p .there h)) ∙ cell-at d (records d) (whole r) k h key ∙ sym (ap (λ (t : Bool). t && leb key (highestOf d k)) e))
         (λ e q. no-cell d (records d) (whole r) o (nowhere-listed q) key ∙ sym (ap (λ (t : Bool). t && leb key (highestOf d k)) e))
-
-    pub marked-by : isMarked (shapeOf d) o ≡ (ltb k (records d) && placed d k .marked)
-    marked-by = by-place
-        (λ e h. ap (isMarked (shapeOf d)) (sym (p .there h)) ∙ marked-at d (records d) (whole r) k h ∙ sym (ap (λ (t : Bool). t && placed d k .marked) e))
-        (λ e q. no-mark d (records d) (whole r) o (nowhere-listed q) ∙ sym (ap (λ (t : Bool). t && placed d k .marked) e))
 
     pub hosted-by : (set : ℕ) → mem o (hosted (shapeOf d) set) ≡ (ltb k (records d) && eqb (set / 2 ^ k % 2) 1)
     unfolding hosted isObject

@@ -28,7 +28,7 @@ log-same ly a b tail e f = ap₂ (λ (n : ℕ) (l : List ℕ). logIn ly n tail l
 -- two slices that answer alike at a tail, whatever else a call is given
 pub record Alike (sh : Shape) (a b : List ℕ) (tail : ℕ) : Type 0 where
   pub checks : check sh (logOf sh.layout a tail) ≡ check sh (logOf sh.layout b tail)
-  pub owes : owed sh (logOf sh.layout a tail) ≡ owed sh (logOf sh.layout b tail)
+  pub owes : (sets : List ℕ) → owed sh (logOf sh.layout a tail) sets ≡ owed sh (logOf sh.layout b tail) sets
   pub tells : (o : ℕ) → entryCall sh (logOf sh.layout a tail) o ≡ entryCall sh (logOf sh.layout b tail) o
   pub items : (o : ℕ) → itemList sh (logOf sh.layout a tail) o ≡ itemList sh (logOf sh.layout b tail) o
   pub nexts : (x from : ℕ) → streamNext sh (logOf sh.layout a tail) x from ≡ streamNext sh (logOf sh.layout b tail) x from
@@ -49,7 +49,7 @@ depends-log sh a b tail e f =
     let same : logOf sh.layout a tail ≡ logOf sh.layout b tail = log-same sh.layout a b tail e f in
     record {
       checks = ap (check sh) same;
-      owes = ap (owed sh) same;
+      owes = λ sets. ap (λ l. owed sh l sets) same;
       tells = λ o. ap (λ l. entryCall sh l o) same;
       items = λ o. ap (λ l. itemList sh l o) same;
       nexts = λ x from. ap (λ l. streamNext sh l x from) same;

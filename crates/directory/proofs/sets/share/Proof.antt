@@ -1,7 +1,7 @@
 -- The and of the two sets is not empty: the law of the common objects.
-use Rattle.player.specs.Shared.{hosted-meet}
-use Rattle.player.proofs.step.share.Statement.{statement}
-use Rattle.player.proofs.step.share.Tie as tie
+use Rattle.directory.specs.Common.{hosted-meet}
+use Rattle.directory.proofs.sets.share.Statement.{statement}
+use Rattle.directory.proofs.sets.share.Tie as tie
 
 returns : tie.Need-returns
 returns c d r l = hosted-meet r (c .args .a) (c .args .b) l
