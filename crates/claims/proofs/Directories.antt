@@ -18,12 +18,12 @@ use Rattle.lists.specs.Rows.{values, joined, length-values, values-same, joined
 use Rattle.lists.specs.Sets.{mem, ascending}
 use Rattle.lists.specs.Members.{all-in, in-all}
 use Rattle.model.specs.Objects.{ObjectKind, aMap, aRegister, Object, Shape, isObject, isCell, hosted, everything, badSet}
-use Rattle.model.specs.Entries.{Log, ifSome, isNone, owes}
+use Rattle.model.specs.Entries.{Log, ifSome, isNone}
 use Rattle.model.specs.Slot.{slot, slotOf, logOf}
 use Rattle.model.specs.Rules.{lowest, lowestBad}
 use Rattle.model.specs.Directory.{recordSize, idAt, recordAt, okRecord, follows, atFault, places, shapeOf, recordBytes, directoryOf, listedIn, faultOf}
 use Rattle.model.specs.Answers.{Refusal, refuse, refuseAt, firstOf, answer, badFrame, frameAndEntries}
-use Rattle.model.specs.Reading.{check, owed, infoIn, entryCall, stretch, orEmpty, itemList, nextOf, nextGiven, streamNext, offsetsOf, listGiven, streamList}
+use Rattle.model.specs.Reading.{check, badSets, owes, owed, infoIn, entryCall, stretch, orEmpty, itemList, nextOf, nextGiven, streamNext, offsetsOf, listGiven, streamList}
 use Rattle.model.specs.Append.{badRecord, badReplica, entryOf, ownTests, appendGiven, append}
 use Rattle.model.specs.Replica.{openFresh, checkpointIn, openGiven, openAt, badStop, playGiven, playFrom, playCall, readCell, auditPlay, lowestFalse, auditGiven, audit}
 use Rattle.model.specs.Table.{cellsOf, capacity, lookup}
@@ -185,7 +185,7 @@ answers-fault sh k e =
     let begins = begins-refused sh k e in
     record {
       checking = λ log. ap (λ (x : Option Refusal). answer x tt) (begins log []);
-      owing = λ log. ap (λ (x : Option Refusal). answer x (lowest (owes sh log) (log .tail))) (begins log []);
+      owing = λ log sets. ap (λ (x : Option Refusal). answer x (lowest (owes sh log sets) (log .tail))) (begins log (refuse 3 (badSets sh sets) ∷ []));
       reading = λ log o. ap (λ (x : Option Refusal). answer x (infoIn sh.layout (slot sh.layout (log .used) o))) (begins log (refuse 3 (leb (log .tail) o) ∷ []));
       listing = λ log o. ap (λ (x : Option Refusal). orEmpty x (stretch sh.layout (slot sh.layout (log .used) o))) (begins log (refuse 3 (leb (log .tail) o) ∷ []));
       next = λ log x from. ap (nextGiven (log .tail) from (nextOf log x from)) (begins log (refuse 3 (not (isObject sh x) || ltb (log .tail) from) ∷ []));

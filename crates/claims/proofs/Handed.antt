@@ -24,6 +24,7 @@ use Rattle.model.specs.Claims.{PlayLeaves, Demand1, AcceptsExactly, KeepsGood, 
 use Rattle.model.specs.HeaderClaims.{HeaderRead, TellsWhere, PastIsBad}
 use Rattle.model.specs.ReadClaims.{TellsAstray, AstrayNone, ShownPasses}
 use Rattle.model.specs.DirectoryClaims.{atPlace}
+use Rattle.model.specs.OwedClaims.{NoneWaits, GoodLog, Answers, OwesExactly, Pays}
 use Rattle.model.specs.Worked.{code}
 use Rattle.laws.specs.FirstWriting.{sorted, auditPlayLast, lowestFalseLast, auditLast}
 use Rattle.laws.proofs.Refusals.{not-none, below-good}
@@ -46,6 +47,7 @@ use Rattle.claims.proofs.Opened.{opens-fresh, opens-at, opens-wherever}
 use Rattle.claims.proofs.Order.{same-calls, same-audits, leaves-in-order}
 use Rattle.claims.proofs.Headers.{header-reads, tells-where, past-is-bad}
 use Rattle.claims.proofs.Astray.{tells-astray, astray-none, shown-passes}
+use Rattle.claims.proofs.Owed.{none-waits, owes-exactly, pays}
 use Rattle.claims.proofs.Directories.{begins-refused, answers-fault}
 
 -- ---- what was not refused had a directory without fault
@@ -128,6 +130,16 @@ module _ (sh : Shape) (k : ℕ) (e : sh .fault ≡ some k) where
   faulty-order : (log : Log) (scratch : List ℕ) → InOrder (counted (carried (audit sh log scratch)))
   unfolding cellsOf values
   faulty-order log scratch = subst (λ (x : Left). InOrder (counted (carried x))) (sym (answers-fault sh k e .auditing log scratch)) tt
+
+  faulty-owed : OwesExactly sh
+  faulty-owed l sets = subst (Answers sh l sets) (sym (answers-fault sh k e .owing (inLog sh l) sets)) (record {
+    lowest = λ q. (λ h. clash true refl (ap isRefused h), λ w. absurd (no (w .0)));
+    nothing = (λ h. clash true refl (ap isRefused h), λ w. absurd (no (w .0)));
+    badRequest = (λ h. let n : _≡_ {A = ℕ} 15 3 = ap code h in absurd (omega arith), λ w. absurd (no (w .0)));
+  })
+    where
+      no : GoodLog sh l → ⊥
+      no g = not-none k (sym e ∙ g .directed)
 
 -- ---- the demands
 
@@ -224,3 +236,12 @@ module _ (dir : List ℕ) where
 
   pub shown-passes-for : ShownPasses (shapeOf dir)
   shown-passes-for h scratch passed = shown-passes sh (good (passed-directed sh h scratch passed)) h scratch passed
+
+  pub none-waits-for : NoneWaits (shapeOf dir)
+  none-waits-for = none-waits sh
+
+  pub owes-exactly-for : OwesExactly (shapeOf dir)
+  owes-exactly-for = by-fault sh (λ e. owes-exactly sh (good e)) (λ k e. faulty-owed sh k e)
+
+  pub pays-for : Pays (shapeOf dir)
+  pays-for l o v taken = pays sh (good (accepted-directed sh l _ taken)) l o v taken

@@ -28,12 +28,12 @@ use Rattle.claims.proofs.Audits.{Sound, decisions-true}
 
 -- ---- one append
 
-record Grew (sh : Shape) (l : Lent) (q : Request) : Type 0 where
-  taken : isRefused (appendTo sh l q .newTail) ≡ false
-  longer : after sh l q .tail ≡ l .tail + 1
-  size : length (after sh l q .bytes) ≡ length (l .bytes)
-  below : Agree (inLog sh (after sh l q)) (inLog sh l) (l .tail)
-  here : inLog sh (after sh l q) .entry (l .tail) ≡ entryOf (inLog sh l) q
+pub record Grew (sh : Shape) (l : Lent) (q : Request) : Type 0 where
+  pub taken : isRefused (appendTo sh l q .newTail) ≡ false
+  pub longer : after sh l q .tail ≡ l .tail + 1
+  pub size : length (after sh l q .bytes) ≡ length (l .bytes)
+  pub below : Agree (inLog sh (after sh l q)) (inLog sh l) (l .tail)
+  pub here : inLog sh (after sh l q) .entry (l .tail) ≡ entryOf (inLog sh l) q
 
 data Turn (sh : Shape) (l : Lent) (q : Request) : Type 0 where
   kept : isRefused (appendTo sh l q .newTail) ≡ true → after sh l q ≡ l → Turn sh l q
@@ -92,13 +92,16 @@ module _ (sh : Shape) (shape : okShape sh ≡ true) where
   first-longer l (suc n) [] = not-longer sh l
   first-longer l (suc n) (q ∷ qs) = first-longer (after sh l q) n qs
 
+  pub accepted-grew : (l : Lent) (q : Request) → Accepted sh l q → Grew sh l q
+  accepted-grew l q taken = go (turn l q)
+    where
+      go : Turn sh l q → Grew sh l q
+      go (kept e s) = clash (isRefused (appendTo sh l q .newTail)) e taken
+      go (grew g) = g
+
   -- an accepted append lies below the tail of what later appends leave
   pub accepted-below : (l : Lent) (q : Request) (qs : List Request) → Accepted sh l q → l .tail < grown sh (after sh l q) qs .tail
-  accepted-below l q qs taken = go (turn l q)
-    where
-      go : Turn sh l q → l .tail < grown sh (after sh l q) qs .tail
-      go (kept e s) = clash (isRefused (appendTo sh l q .newTail)) e taken
-      go (grew g) = omega (arith, g .longer, grown-longer (after sh l q) qs .tails)
+  accepted-below l q qs taken = omega (arith, accepted-grew l q taken .longer, grown-longer (after sh l q) qs .tails)
 
   -- ---- the run that is fed
 

@@ -59,15 +59,15 @@ module _ (sh : Shape) (tail : ℕ) (r : Carried) (stop : ℕ) (f : Fit sh tail r
 
 -- ---- the tests of a play
 
-abbrev numberIn : Option Refusal → ℕ
+abbrev pub numberIn : Option Refusal → ℕ
 numberIn none = 0
 numberIn (some x) = x .number
 
 -- none of its refusals is 12 or 13
-abbrev Apart : Refusal → Type 0
+abbrev pub Apart : Refusal → Type 0
 Apart x = (x .number < 12) ⊎ (14 < x .number)
 
-own-number : (z : Option ℕ) (a : Bool) (b : Option ℕ) (c d : Bool) (x : Refusal) → firstOf (refuseAt 15 z ∷ refuse 1 a ∷ refuseAt 2 b ∷ refuse 10 c ∷ refuse 3 d ∷ []) ≡ some x → Apart x
+pub own-number : (z : Option ℕ) (a : Bool) (b : Option ℕ) (c d : Bool) (x : Refusal) → firstOf (refuseAt 15 z ∷ refuse 1 a ∷ refuseAt 2 b ∷ refuse 10 c ∷ refuse 3 d ∷ []) ≡ some x → Apart x
 own-number (some k) a b c d x e = let n : 15 ≡ x .number = ap numberIn e in inr (omega arith)
 own-number none true b c d x e = let n : 1 ≡ x .number = ap numberIn e in inl (omega arith)
 own-number none false (some o) c d x e = let n : 2 ≡ x .number = ap numberIn e in inl (omega arith)
@@ -75,7 +75,7 @@ own-number none false none true d x e = let n : 10 ≡ x .number = ap numberIn e
 own-number none false none false true x e = let n : 3 ≡ x .number = ap numberIn e in inl (omega arith)
 own-number none false none false false x e = not-none x (sym e)
 
-neither-number : (x : Refusal) → Apart x → (n : ℕ) → 12 ≤ n → n ≤ 14 → x .number ≡ n → ⊥
+pub neither-number : (x : Refusal) → Apart x → (n : ℕ) → 12 ≤ n → n ≤ 14 → x .number ≡ n → ⊥
 neither-number x (inl l) n low high e = absurd (omega arith)
 neither-number x (inr l) n low high e = absurd (omega arith)
 

@@ -35,5 +35,6 @@ pub mod Demand1
 pub mod Demand2
 pub mod Order
 pub mod Headers
+pub mod Owed
 pub mod Directories
 pub mod Handed

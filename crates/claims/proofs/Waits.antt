@@ -16,7 +16,7 @@ use Rattle.lists.specs.Members.{all-false, false-all}
 use Rattle.model.specs.Objects.{Shape}
 use Rattle.model.specs.Entries.{Write, Read, Commit, Entry, plain, numbered, commit, decision, checkpoint, blank, effect, Log, writesOf, commitIn, commitObjects, ifSome, isNone, decided, headerObjects}
 use Rattle.model.specs.Table.{Cell, lookup, apply}
-use Rattle.model.specs.Play.{Played, going, waits, lacks, commitsOver, alone, saysCommit, make, finish, act, step, andThen, play}
+use Rattle.model.specs.Play.{Played, going, waits, lacks, commitsOver, alone, waitsAt, saysCommit, make, finish, act, step, andThen, play}
 use Rattle.model.specs.Replica.{plainly, leftBy}
 use Rattle.model.specs.Histories.{isRefused}
 use Rattle.model.specs.Terms.{Blocked, Ended, there, waiting, noRoom}
@@ -52,73 +52,23 @@ module _ (set : List ℕ) (room p : ℕ) (cs : List Cell) where
   idle-wait true = refl
   idle-wait false = refl
 
--- whether an entry at p is blocked
-abbrev blockedBy : Shape → Log → List ℕ → ℕ → Option Commit → Bool
-blockedBy sh log set p x = ifSome x false (λ c. meets set (commitObjects log p (c .number)) && not (alone sh set (c .condition)) && isNone (decided log p (log .tail)))
+-- whether a replica waits at p, if this is the entry there
+abbrev waitsBy : Shape → Log → List ℕ → ℕ → Entry → Bool
+waitsBy sh log set p e =
+    ifSome (commitIn (effect e)) false (λ c. meets set (headerObjects log p e) && not (alone sh set (c .condition)) && isNone (decided log p (log .tail)))
 
-module _ (sh : Shape) (log : Log) (set : List ℕ) (room : ℕ) where
-  abbrev blocked : ℕ → Bool
-  blocked q = blockedBy sh log set q (commitIn (effect (log .entry q)))
+-- ---- in words
 
+module _ (sh : Shape) (log : Log) (set : List ℕ) where
   reads-hosted : (xs : List Read) → alone sh set (record { reads = xs }) ≡ all (λ (x : Read). mem x.object set) xs
   reads-hosted [] = refl
   reads-hosted (x ∷ xs) = ap (λ (b : Bool). mem x.object set && b) (reads-hosted xs)
 
-  entry-wait : (p : ℕ) (cs : List Cell) (e : Entry)
-      → StepWait p (blockedBy sh log set p (commitIn (effect e))) (cond (meets set (headerObjects log p e)) (act sh log set room p cs (effect e)) (going cs))
-  unfolding headerObjects
-  entry-wait p cs (plain ws) = go (meets set (headerObjects log p (plain ws)))
+  pub waits-words : (q : ℕ) → waitsAt sh log set q ≡ true → Blocked log set q
+  unfolding waitsAt headerObjects
+  waits-words q h = go (log .entry q) refl h
     where
-      go : (m : Bool) → StepWait p false (cond m (make set room p ws cs) (going cs))
-      go true = make-wait set room p cs ws
-      go false = refl
-  entry-wait p cs (numbered n ws) = idle-wait set room p cs (meets set (headerObjects log p (numbered n ws)))
-  entry-wait p cs (commit n c) =
-      commit-wait set room p cs (writesOf log n p) (meets set (commitObjects log p n)) (alone sh set c) (commitsOver (lookup cs) c) (decided log p (log .tail))
-  entry-wait p cs (decision r) = idle-wait set room p cs (meets set (headerObjects log p (decision r)))
-  entry-wait p cs (checkpoint o xs) = idle-wait set room p cs (meets set (headerObjects log p (checkpoint o xs)))
-  entry-wait p cs blank = idle-wait set room p cs (meets set (headerObjects log p blank))
-
-  -- no record from p up to q is blocked
-  abbrev Clear : ℕ → ℕ → Type 0
-  Clear p q = (p ≤ q) × ((x : ℕ) → p ≤ x → x < q → blocked x ≡ false)
-
-  abbrev PlayWait : ℕ → ℕ → Played → Type 0
-  PlayWait p n (going cs) = Clear p (p + n)
-  PlayWait p n (waits q cs) = (q < p + n) × (blocked q ≡ true) × Clear p q
-  PlayWait p n (lacks q cs) = (q < p + n) × (blocked q ≡ false) × Clear p q
-
-  one-more : (p q : ℕ) → Clear p q → blocked q ≡ false → Clear p (suc q)
-  one-more p q c b = (omega (arith, c .0), λ x l h. go x l h (eqb x q) refl)
-    where
-      less : (x : ℕ) → x < suc q → (x ≡ q → ⊥) → x < q
-      less x h d = omega arith
-
-      go : (x : ℕ) → p ≤ x → x < suc q → (e : Bool) → eqb x q ≡ e → blocked x ≡ false
-      go x l h true e = rw (eqb-true x q e) b
-      go x l h false e = c .1 x l (less x h (eqb-false x q e))
-
-  play-wait : (p : ℕ) (cs : List Cell) (n : ℕ) → PlayWait p n (play sh log set room p cs n)
-  unfolding play step
-  play-wait p cs zero = (omega arith, λ x l h. absurd (omega arith))
-  play-wait p cs (suc n) = go (play sh log set room p cs n) (play-wait p cs n)
-    where
-      took : (x : Played) → StepWait (p + n) (blocked (p + n)) x → Clear p (p + n) → PlayWait p (suc n) x
-      took (going u) w c = rw add-suc (one-more p (p + n) c w)
-      took (waits q u) w c = (omega (arith, w .0), rw (w .0) (w .1), rw (w .0) c)
-      took (lacks q u) w c = (omega (arith, w .0), rw (w .0) (w .1), rw (w .0) c)
-
-      go : (x : Played) → PlayWait p n x → PlayWait p (suc n) (andThen x (step sh log set room (p + n)))
-      go (going u) c = took (step sh log set room (p + n) u) (entry-wait (p + n) u (log .entry (p + n))) c
-      go (waits q u) c = (omega (arith, c .0), c .1, c .2)
-      go (lacks q u) c = (omega (arith, c .0), c .1, c .2)
-
-  -- ---- in words
-
-  blocked-words : (q : ℕ) → blocked q ≡ true → Blocked log set q
-  blocked-words q h = go (log .entry q) refl h
-    where
-      go : (e : Entry) → log .entry q ≡ e → blockedBy sh log set q (commitIn (effect e)) ≡ true → Blocked log set q
+      go : (e : Entry) → log .entry q ≡ e → waitsBy sh log set q e ≡ true → Blocked log set q
       go (commit n c) i k =
           let far : not (alone sh set c) ≡ true = search ands in
           let (x, m, o) = all-false (λ (x : Read). mem x.object set) (c .reads) (sym (reads-hosted (c .reads)) ∙ not-true (alone sh set c) far) in
@@ -136,11 +86,67 @@ module _ (sh : Shape) (log : Log) (set : List ℕ) (room : ℕ) where
       go (checkpoint o cs) i k = clash false k refl
       go blank i k = clash false k refl
 
-  words-blocked : (q : ℕ) → Blocked log set q → blocked q ≡ true
-  words-blocked q b =
+  pub words-waits : (q : ℕ) → Blocked log set q → waitsAt sh log set q ≡ true
+  unfolding waitsAt headerObjects
+  words-waits q b =
       let (x, m, o) = b .outside in
       let far : alone sh set (b .condition) ≡ false = reads-hosted (b .condition .reads) ∙ false-all (λ (x : Read). mem x.object set) x (b .condition .reads) m o in
       rw (b .here) (both (both (words-concerns log set (b .number) q (b .concerns)) (ap not far)) (words-undecided log q (log .tail) (b .undecided)))
+
+-- ---- steps and plays
+
+module _ (sh : Shape) (log : Log) (set : List ℕ) (room : ℕ) where
+  abbrev pub blocked : ℕ → Bool
+  blocked q = waitsAt sh log set q
+
+  entry-wait : (p : ℕ) (cs : List Cell) (e : Entry)
+      → StepWait p (waitsBy sh log set p e) (cond (meets set (headerObjects log p e)) (act sh log set room p cs (effect e)) (going cs))
+  unfolding headerObjects
+  entry-wait p cs (plain ws) = go (meets set (headerObjects log p (plain ws)))
+    where
+      go : (m : Bool) → StepWait p false (cond m (make set room p ws cs) (going cs))
+      go true = make-wait set room p cs ws
+      go false = refl
+  entry-wait p cs (numbered n ws) = idle-wait set room p cs (meets set (headerObjects log p (numbered n ws)))
+  entry-wait p cs (commit n c) =
+      commit-wait set room p cs (writesOf log n p) (meets set (commitObjects log p n)) (alone sh set c) (commitsOver (lookup cs) c) (decided log p (log .tail))
+  entry-wait p cs (decision r) = idle-wait set room p cs (meets set (headerObjects log p (decision r)))
+  entry-wait p cs (checkpoint o xs) = idle-wait set room p cs (meets set (headerObjects log p (checkpoint o xs)))
+  entry-wait p cs blank = idle-wait set room p cs (meets set (headerObjects log p blank))
+
+  -- no record from p up to q is blocked
+  abbrev pub Clear : ℕ → ℕ → Type 0
+  Clear p q = (p ≤ q) × ((x : ℕ) → p ≤ x → x < q → blocked x ≡ false)
+
+  abbrev pub PlayWait : ℕ → ℕ → Played → Type 0
+  PlayWait p n (going cs) = Clear p (p + n)
+  PlayWait p n (waits q cs) = (q < p + n) × (blocked q ≡ true) × Clear p q
+  PlayWait p n (lacks q cs) = (q < p + n) × (blocked q ≡ false) × Clear p q
+
+  one-more : (p q : ℕ) → Clear p q → blocked q ≡ false → Clear p (suc q)
+  one-more p q c b = (omega (arith, c .0), λ x l h. go x l h (eqb x q) refl)
+    where
+      less : (x : ℕ) → x < suc q → (x ≡ q → ⊥) → x < q
+      less x h d = omega arith
+
+      go : (x : ℕ) → p ≤ x → x < suc q → (e : Bool) → eqb x q ≡ e → blocked x ≡ false
+      go x l h true e = rw (eqb-true x q e) b
+      go x l h false e = c .1 x l (less x h (eqb-false x q e))
+
+  pub play-wait : (p : ℕ) (cs : List Cell) (n : ℕ) → PlayWait p n (play sh log set room p cs n)
+  unfolding play step waitsAt
+  play-wait p cs zero = (omega arith, λ x l h. absurd (omega arith))
+  play-wait p cs (suc n) = go (play sh log set room p cs n) (play-wait p cs n)
+    where
+      took : (x : Played) → StepWait (p + n) (blocked (p + n)) x → Clear p (p + n) → PlayWait p (suc n) x
+      took (going u) w c = rw add-suc (one-more p (p + n) c w)
+      took (waits q u) w c = (omega (arith, w .0), rw (w .0) (w .1), rw (w .0) c)
+      took (lacks q u) w c = (omega (arith, w .0), rw (w .0) (w .1), rw (w .0) c)
+
+      go : (x : Played) → PlayWait p n x → PlayWait p (suc n) (andThen x (step sh log set room (p + n)))
+      go (going u) c = took (step sh log set room (p + n) u) (entry-wait (p + n) u (log .entry (p + n))) c
+      go (waits q u) c = (omega (arith, c .0), c .1, c .2)
+      go (lacks q u) c = (omega (arith, c .0), c .1, c .2)
 
   -- what a play to a stop leaves is as demanded
   pub play-waits : (fit : Type 0) → fit → (hosting p stop : ℕ) (table : List ℕ) (cs : List Cell) → p ≤ stop
@@ -148,7 +154,7 @@ module _ (sh : Shape) (log : Log) (set : List ℕ) (room : ℕ) where
   play-waits fit f hosting p stop table cs l = go (play sh log set room p cs (stop - p)) (play-wait p cs (stop - p))
     where
       clear : (q : ℕ) → blocked q ≡ false → Blocked log set q → ⊥
-      clear q e b = clash (blocked q) (words-blocked q b) e
+      clear q e b = clash (blocked q) (words-waits sh log set q b) e
 
       go : (x : Played) → PlayWait p (stop - p) x → Waiting fit log set p stop (leftBy hosting stop table x)
       go (going u) w = record {
@@ -157,7 +163,7 @@ module _ (sh : Shape) (log : Log) (set : List ℕ) (room : ℕ) where
         notBack = λ f. l;
       }
       go (waits q u) w = record {
-        exactly = ((λ e. (f, omega (arith, w .0), blocked-words q (w .1))), (λ h. refl));
+        exactly = ((λ e. (f, omega (arith, w .0), waits-words sh log set q (w .1))), (λ h. refl));
         passes = λ f x a b k. clear x (w .2 .1 x a b) k;
         notBack = λ f. w .2 .0;
       }

@@ -10,7 +10,7 @@ use Rattle.lists.specs.Splice.{splice}
 use Rattle.lists.specs.Rows.{values, joined}
 use Rattle.lists.specs.First.{first, firstFrom}
 use Rattle.lists.specs.Equal.{eqList}
-use Rattle.model.specs.Objects.{depots, isObject, isCell, isMarked, hosted}
+use Rattle.model.specs.Objects.{depots, isObject, isCell, hosted}
 use Rattle.model.specs.Entries.{writesOf, stamps, astray, closed, decided, headerObjects, earlier}
 use Rattle.model.specs.Slot.{writeBytes, writeAt, readBytes, readAt, savedBytes, savedAt, itemBytes, itemCount, headerOf, slotOf, decode, slot, logIn, objectsIn}
 use Rattle.model.specs.Rules.{okEntry, lowest, lowestBad, okWrite, okWrites, okRead, okReads, okSaved, narrow, goodAt, repeats}
@@ -46,5 +46,5 @@ pub orders-differ : (let l = logBy 3 three in
     && leftIs 255 96 (audit depots log (lentTable 96)) (ends 3 inCellOrder)
     && eqb (code (readCellLast depots ended (joined cellBytes firstWritten) 2 9)) 0
     && eqb (code (readCell depots ended (joined cellBytes firstWritten) 2 9)) 10) ≡ true
-unfolding beAt bytesOf splice values joined first firstFrom eqList writesOf stamps astray closed decided headerObjects earlier writeBytes writeAt readBytes readAt savedBytes savedAt itemBytes itemCount headerOf slotOf decode slot logIn okEntry lowest lowestBad cellAt cellBytes cellsOf tableWith apply savedOf play commitsOver entryOf firstPlace ownTests append openFresh playCall readCell audit grown isObject isCell isMarked hosted okWrite okWrites okRead okReads okSaved narrow goodAt lookup inOrder store step badFrame objectsIn repeats storeLast applyLast stepLast playLast playCallLast readCellLast auditLast
+unfolding beAt bytesOf splice values joined first firstFrom eqList writesOf stamps astray closed decided headerObjects earlier writeBytes writeAt readBytes readAt savedBytes savedAt itemBytes itemCount headerOf slotOf decode slot logIn okEntry lowest lowestBad cellAt cellBytes cellsOf tableWith apply savedOf play commitsOver entryOf firstPlace ownTests append openFresh playCall readCell audit grown isObject isCell hosted okWrite okWrites okRead okReads okSaved narrow goodAt lookup inOrder store step badFrame objectsIn repeats storeLast applyLast stepLast playLast playCallLast readCellLast auditLast
 orders-differ = refl
