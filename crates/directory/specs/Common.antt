@@ -11,7 +11,7 @@ use lib.ListN.{length, getD, length-map}
 use lib.Bits.{bitAnd, and-le-r, and-shr, and-mod}
 use borrow.Author.Tests.{eq-eqb, ne-eqb, eqb-true, eqb-false}
 use Rattle.lists.specs.Tests.{and-l, and-r, neither, or-case, both, clash}
-use Rattle.lists.specs.Sets.{all, mem, meets, within, isEmpty, ascending}
+use Rattle.lists.specs.Sets.{all, mem, meets, within, isEmpty, ascending, ascendingSet, mem-set}
 use Rattle.model.specs.Objects.{Object, isObject, hostedBy, hosted}
 use Rattle.model.specs.Directory.{shapeOf, listedIn}
 use Rattle.model.specs.Terms.{Listed}
@@ -69,6 +69,17 @@ each-within s [] h x m = clash false m refl
 each-within s (y ∷ t) h x m =
     or-case (eqb y x) (mem x t) m (λ q. ap (λ (z : ℕ). mem z s) (sym (eqb-true y x q)) ∙ and-l (mem y s) (within s t) h)
     (λ k. each-within s t (and-r (mem y s) (within s t) h) x k)
+
+-- each of a list is where each of its ascending set is
+pub within-set : (s t : List ℕ) → within s (ascendingSet t) ≡ within s t
+within-set s t = same (within s (ascendingSet t)) (within s t)
+    (λ h. within-each s t (λ x m. each-within s (ascendingSet t) h x (mem-set x t ∙ m)))
+    (λ h. within-each s (ascendingSet t) (λ x m. each-within s t h x (sym (mem-set x t) ∙ m)))
+  where
+    same : (a b : Bool) → (a ≡ true → b ≡ true) → (b ≡ true → a ≡ true) → a ≡ b
+    same true b f g = sym (f refl)
+    same false true f g = g refl
+    same false false f g = refl
 
 -- ---- the common objects of two sets
 
