@@ -47,7 +47,7 @@ module _ (dir : List ℕ) (l : Lent) (c : AppendCall) (t : ℕ) (of : seen c .di
       ∙ ap (λ (x : List ℕ). isRefused (model.append (shapeOf x) (seen c .bytes) (seen c .tail) (seen c .request) .newTail)) (sym of)
       ∙ answered c ∙ ap (λ x. isRefused (tailIn x)) d
 
-  after-so : after (shapeOf dir) l (seen c .request) ≡ lent (seen c .left) t
+  pub after-so : after (shapeOf dir) l (seen c .request) ≡ lent (seen c .left) t
   after-so =
       left-after dir c (l .bytes) (l .tail) of (ap (λ (x : Lent). x .bytes) given) (ap (λ (x : Lent). x .tail) given)
       ∙ ap (λ x. lent (seen c .left) (tailAfter (seen c .tail) (tailIn x))) d

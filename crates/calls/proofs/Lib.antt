@@ -10,3 +10,4 @@ pub mod Instalments
 pub mod Order
 pub mod Headers
 pub mod ReadSets
+pub mod Owed

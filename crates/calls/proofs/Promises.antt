@@ -6,11 +6,11 @@ use mathlib.Core.List.{List}
 use denote.Ref.{now}
 use Rattle.model.specs.Directory.{shapeOf}
 use Rattle.model.specs.Append as model
-use Rattle.model.specs.Reading.{check, entryCall, itemList, itemsFrom}
+use Rattle.model.specs.Reading.{check, owed, entryCall, itemList, itemsFrom}
 use Rattle.model.specs.Replica as model-replica
 use Rattle.model.specs.Histories.{Lent, playOn}
 use Rattle.codec.specs.Eight.{inLog}
-use Rattle.entries.specs.Answers.{foundIn, further}
+use Rattle.entries.specs.Answers.{owedIn, foundIn, further}
 use Rattle.answers.specs.Refusals.{checkedIn}
 use Rattle.append.specs.Answers.{tailIn}
 use Rattle.records.specs.declared.Record.{Record}
@@ -18,7 +18,7 @@ use Rattle.records.specs.Record.{replicaIn}
 use Rattle.replica.specs.Answers.{openedIn, readIn}
 use Rattle.replica.proofs.opening.open_fresh.Kinds as fresh-kinds
 use Rattle.replica.proofs.opening.open_fresh.Reads as fresh-reads
-use Rattle.calls.specs.Values.{Call, AppendCall, update, commit, decision, checkpoint, seen, CheckCall, EntryCall, ItemsCall, part, AuditCall, scratch, auditLeft, Kept, carry, OpenCall, openLeft, PlayedBy, byValue, inPlace, watched, PlayOn, stopOf, playLeft, ReadCall}
+use Rattle.calls.specs.Values.{Call, AppendCall, update, commit, decision, checkpoint, seen, CheckCall, OwedCall, EntryCall, ItemsCall, part, AuditCall, scratch, auditLeft, Kept, carry, OpenCall, openLeft, PlayedBy, byValue, inPlace, watched, PlayOn, stopOf, playLeft, ReadCall}
 
 pub append-promise : (c : AppendCall)
     → _≡_ {A = model.Appended} (record { newTail = tailIn (seen c .answer); bytes = seen c .left }) (model.append (shapeOf (seen c .dir)) (seen c .bytes) (seen c .tail) (seen c .request))
@@ -36,6 +36,13 @@ module _ (d : List ℕ) (log : Lent) where
   check-promise c =
       c .call .learnt ∙ ap (λ (l : Lent). check (shapeOf (now (c .call .given .0))) (inLog l)) (lent log _ _ (c .bytes) (c .tail))
       ∙ ap (λ (x : List ℕ). check (shapeOf x) (inLog log)) (c .dir)
+
+  pub owed-promise : (sets : List ℕ) (c : OwedCall d log sets) → owedIn (c .call .answer) ≡ owed (shapeOf d) (inLog log) sets
+  owed-promise sets c =
+      c .call .learnt
+      ∙ ap (λ (l : Lent). owed (shapeOf (now (c .call .given .0))) (inLog l) (now (c .call .given .1 .1 .1 .0))) (lent log _ _ (c .bytes) (c .tail))
+      ∙ ap (owed (shapeOf (now (c .call .given .0))) (inLog log)) (c .sets)
+      ∙ ap (λ (x : List ℕ). owed (shapeOf x) (inLog log) sets) (c .dir)
 
   pub entry-promise : (o : ℕ) (c : EntryCall d log o) → foundIn (c .call .answer) ≡ entryCall (shapeOf d) (inLog log) o
   entry-promise o c =

@@ -3,3 +3,4 @@ pub mod Claims
 pub mod Order
 pub mod Headers
 pub mod ReadSets
+pub mod Owed

@@ -38,10 +38,19 @@ fn of_owed(o: Owed) -> Numbers
     }
 }
 
-// 1 and the lowest offset that owes a decision record; or 0.
+// 1 and the lowest offset that owes a replica of one of these sets a decision record; or 0.
 #[no_mangle]
-pub extern "C" fn stocklog_owed(dir: &[u8], log: &[u8], tail: usize, out: &mut [u64; 4]) -> u32
-    ensures { λ r. ⌜ record { number = r; out = now (out .exit) } ≡ owedReply (owed (shapeOf (now (dir .entry))) (logOf (now (log .entry)) tail)) ⌝ }
+pub extern "C" fn stocklog_owed(
+    dir: &[u8],
+    log: &[u8],
+    tail: usize,
+    sets: &[u64],
+    out: &mut [u64; 4],
+) -> u32
+    ensures { λ r. ⌜ record { number = r; out = now (out .exit) } ≡ owedReply (owed (shapeOf (now (dir .entry))) (logOf (now (log .entry)) tail) (now (sets .entry))) ⌝ }
 {
-    crate::numbers::put(out, of_owed(entries::owing::lowest_owing(dir, log, tail)))
+    crate::numbers::put(
+        out,
+        of_owed(entries::owing::lowest_owing(dir, log, tail, sets)),
+    )
 }

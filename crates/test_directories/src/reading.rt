@@ -18,9 +18,11 @@ fn check(dir: &[u8], log: &[u8], tail: usize) {
     printing::line_end();
 }
 
-fn owed(dir: &[u8], log: &[u8], tail: usize) {
+// What is owed to a replica of one object, by its place.
+fn owed(dir: &[u8], log: &[u8], tail: usize, place: u64, set: u64) {
     io::write_all(1, b"owed");
-    let w = entries::owing::lowest_owing(dir, log, tail);
+    printing::next(place);
+    let w = entries::owing::lowest_owing(dir, log, tail, &[set]);
     match w {
         Owed::At(o) => printing::next(o.0),
         Owed::Nothing => {
@@ -87,7 +89,8 @@ fn list(dir: &[u8], log: &[u8], tail: usize, object: u32) {
 pub fn all(dir: &[u8], log: &[u8], t: Told) {
     let tail = t.tail as usize;
     check(dir, log, tail);
-    owed(dir, log, tail);
+    owed(dir, log, tail, 0, 1);
+    owed(dir, log, tail, 1, 2);
     entry(dir, log, tail);
     items(dir, log, tail);
     next(dir, log, tail, t.object);

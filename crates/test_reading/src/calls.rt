@@ -12,9 +12,11 @@ pub fn check(dir: &[u8], log: &[u8], tail: usize) {
     printing::line_end();
 }
 
-pub fn owed(dir: &[u8], log: &[u8], tail: usize) {
+// What is owed to replicas of these sets, with the place of their list.
+fn owed_to(dir: &[u8], log: &[u8], tail: usize, place: u64, sets: &[u64]) {
     io::write_all(1, b"owed");
-    let w = entries::owing::lowest_owing(dir, log, tail);
+    printing::next(place);
+    let w = entries::owing::lowest_owing(dir, log, tail, sets);
     match w {
         Owed::At(o) => printing::next(o.0),
         Owed::Nothing => {
@@ -23,6 +25,32 @@ pub fn owed(dir: &[u8], log: &[u8], tail: usize) {
         Owed::Refused(r) => printing::next_refusal(r),
     }
     printing::line_end();
+}
+
+// Lists of sets that may be declared: none, with and without what is read, in both orders, everything, and each object by itself.
+fn owed_declared(dir: &[u8], log: &[u8], tail: usize) {
+    let none = [0u64; 0];
+    owed_to(dir, log, tail, 0, &none);
+    owed_to(dir, log, tail, 1, &[16u64]);
+    owed_to(dir, log, tail, 2, &[18u64]);
+    owed_to(dir, log, tail, 3, &[18u64, 16]);
+    owed_to(dir, log, tail, 4, &[2u64]);
+    owed_to(dir, log, tail, 5, &[255u64]);
+    owed_to(dir, log, tail, 6, &[1u64, 2, 4, 8, 16, 32, 64, 128]);
+}
+
+// An empty set, a bit past the directory, the most sets and one more.
+fn owed_undeclared(dir: &[u8], log: &[u8], tail: usize) {
+    let many = [254u64; 17];
+    owed_to(dir, log, tail, 7, &[4u64, 0]);
+    owed_to(dir, log, tail, 8, &[256u64]);
+    owed_to(dir, log, tail, 9, &many[..16]);
+    owed_to(dir, log, tail, 10, &many);
+}
+
+pub fn owed(dir: &[u8], log: &[u8], tail: usize) {
+    owed_declared(dir, log, tail);
+    owed_undeclared(dir, log, tail);
 }
 
 // The header at a place, where the entry has so many.
