@@ -55,8 +55,8 @@ pub fn check(dir: &[u8], log: &[u8], tail: usize) -> Said {
     said(log::check(dir, log, tail), |()| [0; 3])
 }
 
-pub fn owed(dir: &[u8], log: &[u8], tail: usize) -> Said {
-    said(log::owed(dir, log, tail), |owed| match owed {
+pub fn owed(dir: &[u8], log: &[u8], tail: usize, sets: &[u64]) -> Said {
+    said(log::owed(dir, log, tail, sets), |owed| match owed {
         Some(offset) => [1, offset, 0],
         None => [0; 3],
     })

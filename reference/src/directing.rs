@@ -325,9 +325,11 @@ fn reading(text: &mut String, case: &Case) {
     let (dir, log, tail) = (&case.dir, &case.log, case.tail as usize);
     let answer = check(dir, log, tail).shown(|()| "done".to_string());
     line(text, &format!("check {answer}"));
-    let answer = owed(dir, log, tail)
-        .shown(|owed| owed.map_or("none".to_string(), |offset| offset.to_string()));
-    line(text, &format!("owed {answer}"));
+    for (place, set) in [1, 2].into_iter().enumerate() {
+        let answer = owed(dir, log, tail, &[set])
+            .shown(|owed| owed.map_or("none".to_string(), |offset| offset.to_string()));
+        line(text, &format!("owed {place} {answer}"));
+    }
     let answer = entry(dir, log, tail, 3).shown(|entry| {
         let kind = entry.kind as u32;
         format!("{kind} {} {} {}", entry.number, entry.headers, entry.items)

@@ -35,10 +35,6 @@ pub fn is_cell(id: u32, key: u32) -> bool {
     the_eight().is_cell(id, key)
 }
 
-pub fn is_marked(id: u32) -> bool {
-    the_eight().is_marked(id)
-}
-
 /// The set of one of the eight; of another id, the empty set.
 pub fn set_of(id: u32) -> u64 {
     the_eight().set_of(id)

@@ -8,7 +8,8 @@
 //! A case is 4 bytes tail, 4 bytes length of the log in bytes, then the log's bytes. T is the given tail.
 //!
 //! - `check done` or `check refused N at K`.
-//! - `owed none`, `owed OFFSET` or `owed refused N at K`.
+//! - For each of the eleven lists of sets of `DECLARED`, with its place from 0: `owed PLACE none`, `owed PLACE OFFSET` or `owed PLACE
+//!   refused N at K`.
 //! - For each offset o of 0, 1, .. min(T, 7), then T, then T + 1, without repeats: `entry o KIND NUMBER HEADERS
 //!   ITEMS`, with kind 1 update, 2 commit, 3 decision, 4 checkpoint, and for each header ` OBJECT FORMAT POINTER` on
 //!   the same line (the pointer is the stored 8 bytes as one number); or `entry o refused N at K`. Then `items o` and
@@ -71,7 +72,8 @@
 //! A case is 4 bytes length of the directory in bytes, the directory's bytes, 4 bytes length of the log in bytes, the log's bytes, 4
 //! bytes tail T, 8 bytes hosted set, 4 bytes object x, 4 bytes key. A line for each call:
 //!
-//! - `check done`; `owed none` or `owed OFFSET`; `entry KIND NUMBER HEADERS ITEMS` of offset 3; `items` of offset 3 as above.
+//! - `check done`; `owed 0 none` or `owed 0 OFFSET` with the set 1 declared, `owed 1` likewise with the set 2; `entry KIND NUMBER HEADERS
+//!   ITEMS` of offset 3; `items` of offset 3 as above.
 //! - `next OFFSET r` or `next end r` of object x from 1, with r as above. `list COUNT` of object x, with a lent list of 3 numbers filled
 //!   with 77777, and then its numbers.
 //! - `update done T`, a plain put of 1 to the cell; `commit done T` of number 9, which reads the cell with version 0; `decision done T`,
@@ -97,13 +99,29 @@ use crate::cases::reading;
 use crate::directing::{self, directing};
 use crate::directory::eight;
 use crate::forms;
-use crate::log::{check, entry, header, items, list, next, owed};
+use crate::log::{check, entry, header, items, list, next, owed, MOST_SETS};
 use crate::playing::{self, playing};
 use crate::report;
 use crate::sample::{bench, log_of};
 use crate::Answer;
 
 const FILLED: u32 = 77_777;
+
+/// The sets that are declared, list by list: none; object 5; 2 and 5; both of these; 2; all; each by itself; an empty one; one with a bit
+/// past the eight; the most sets; one more.
+const DECLARED: [&[u64]; 11] = [
+    &[],
+    &[16],
+    &[18],
+    &[18, 16],
+    &[2],
+    &[255],
+    &[1, 2, 4, 8, 16, 32, 64, 128],
+    &[4, 0],
+    &[256],
+    &[254; MOST_SETS],
+    &[254; MOST_SETS + 1],
+];
 
 /// The programs that have stored vectors.
 pub const PROGRAMS: [&str; 6] = [
@@ -201,9 +219,12 @@ fn print_case(text: &mut String, log: &[u8], tail: usize) {
     line(text, "check", check(eight(), log, tail), |()| {
         "done".to_string()
     });
-    line(text, "owed", owed(eight(), log, tail), |owed| {
-        owed.map_or("none".to_string(), |offset| offset.to_string())
-    });
+    for (place, sets) in DECLARED.iter().enumerate() {
+        let answer = owed(eight(), log, tail, sets);
+        line(text, &format!("owed {place}"), answer, |owed| {
+            owed.map_or("none".to_string(), |offset| offset.to_string())
+        });
+    }
     let last = tail as u64;
     for offset in distinct((0..=last.min(7)).chain([last, last + 1])) {
         print_entry(text, log, tail, offset);

@@ -8,7 +8,7 @@ use reference::append::{self, Request, Writer};
 use reference::audit::audit;
 use reference::boundary::{self, Said};
 use reference::directory::{bytes_of, eight, fault, Directory, HIGHEST_ID, HIGHEST_KEY};
-use reference::log::{check, entry, header, items, list, next, owed, Reader};
+use reference::log::{check, entry, header, items, list, next, Reader};
 use reference::objects::{Object, Structure};
 use reference::random::{faulty_directory, junk, Random};
 use reference::replica::{open_at, open_fresh, play, play_in_place, read_cell, Record};
@@ -173,9 +173,6 @@ fn tries() -> Tries {
         tries.on("check", number, log, &[], |dir, lent| {
             boundary::check(dir, &lent.log, 5)
         });
-        tries.on("owed", number, log, &[], |dir, lent| {
-            boundary::owed(dir, &lent.log, 5)
-        });
     }
     let logs_and = |three: u64| {
         [
@@ -185,6 +182,11 @@ fn tries() -> Tries {
             (3, &logs.good, three),
         ]
     };
+    for (number, log, set) in logs_and(256) {
+        tries.on("owed", number, log, &[], move |dir, lent| {
+            boundary::owed(dir, &lent.log, 5, &[1, set.max(2)])
+        });
+    }
     for (number, log, offset) in logs_and(5) {
         tries.on("entry", number, log, &[], move |dir, lent| {
             boundary::entry(dir, &lent.log, 5, offset)
@@ -347,7 +349,7 @@ fn replica_tries(tries: &mut Tries, logs: &Logs) {
 /// The order of 13.5, without 15.
 const NUMBERS: [(&str, &[u32]); 16] = [
     ("check", &[0, 1, 2]),
-    ("owed", &[0, 1, 2]),
+    ("owed", &[0, 1, 2, 3]),
     ("entry", &[0, 1, 2, 3]),
     ("header", &[0, 1, 2, 3]),
     ("items", &[0, 1, 2, 3]),
@@ -544,34 +546,6 @@ fn the_clinics_far_headers() {
     assert_eq!(lent, [0, 65_536, 7]);
     assert_eq!(next(&dir, log, 65_537, HIGHEST_ID, 1).0, Done(Some(65_536)));
     assert_eq!(list(&dir, log, 65_537, u32::MAX, &mut lent), refused(3));
-}
-
-/// The register of the clinics is marked, their maps are not.
-#[test]
-fn owed_by_the_marks_of_the_directory() {
-    let requests = [
-        update(1, &[put(10, 1, 1)]),
-        commit(1, &[read(10, 5, 0)]),
-        update(2, &[put(10, 2, 1)]),
-        commit(2, &[read(10, 5, 0), read(20, 0, 0)]),
-        decision(3, 1),
-    ];
-    let dir = clinics();
-    let log = log_over(&dir, &requests);
-    assert_eq!(owed(&dir, &log, 2), Done(None));
-    assert_eq!(owed(&dir, &log, 4), Done(Some(3)));
-    assert_eq!(owed(&dir, &log, 5), Done(None));
-    // the same log, where the first map is marked too
-    let mut marked = dir.clone();
-    marked[13] = 1;
-    assert_eq!(owed(&marked, &log, 5), Done(Some(1)));
-    // kinds and marks change nothing else
-    let (mut one, mut other) = (vec![0; 99], vec![0; 99]);
-    assert_eq!(
-        audit(&dir, &log, 5, &mut one),
-        audit(&marked, &log, 5, &mut other)
-    );
-    assert_eq!(one, other);
 }
 
 /// Ids far apart; an update of five objects is 5, and so is one whose transaction has five.

@@ -311,7 +311,8 @@ fn call_everything(dir: &[u8], log: &[u8], random: &mut Random) {
     let (offset, other) = (edge(random), edge(random));
     let (small, word) = (random.below(10) as u32, other as u32);
     check(dir, log, tail);
-    owed(dir, log, tail);
+    let sets = [any_set(random), any_set(random)];
+    owed(dir, log, tail, &sets[..random.below(3) as usize]);
     for offset in [offset, random.below(slots + 2)] {
         let whole = entry(dir, log, tail, offset);
         assert_eq!(whole.number(), stretch(dir, log, tail, offset).number());

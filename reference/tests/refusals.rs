@@ -446,7 +446,7 @@ fn reading_order() {
         (&broken[..], 5, refused_at(2, 3)),
     ] {
         assert_eq!(check(eight(), bytes, tail), refusal);
-        assert_eq!(owed(eight(), bytes, tail).number(), refusal.number());
+        assert_eq!(owed(eight(), bytes, tail, &[0]).number(), refusal.number());
         assert_eq!(entry(eight(), bytes, tail, 9).number(), refusal.number());
         assert_eq!(
             header(eight(), bytes, tail, 0, 9).number(),

