@@ -1,5 +1,5 @@
 #!/bin/sh
-# Shows that the differential run can fail: each mistake of mutants/*.edit and mutants/directory/*.edit is made in a stand-in library
+# Shows that the differential run can fail: each mistake of mutants/*.edit and of the directories in mutants/ is made in a stand-in library
 # over a copy of the second implementation, and the run must find a difference.
 #
 # usage: reference/mutants.sh [NAME ..]
@@ -31,7 +31,7 @@ echo "no mistake: $(tail -n 1 "$room/said")"
 
 missed=0
 tried=0
-for edit in "$here"/mutants/*.edit "$here"/mutants/directory/*.edit; do
+for edit in "$here"/mutants/*.edit "$here"/mutants/*/*.edit; do
     name=$(basename "$edit" .edit)
     case " $* " in
     "  " | *" $name "*) ;;

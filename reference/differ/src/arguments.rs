@@ -2,6 +2,7 @@
 
 use reference::append::Request;
 use reference::directory::{the_eight, Directory};
+use reference::log::MOST_SETS;
 use reference::random::{self, edge, faulty_directory, flip, junk, put_in_order, Random};
 use reference::replica::Record;
 use reference::sample::{commit, put, read, remove, table_of, update};
@@ -175,6 +176,48 @@ pub fn hosted(random: &mut Random, directory: &Directory) -> u64 {
     }
 }
 
+/// Declared sets, from none to more than may be: mostly good ones, now and then one twice, an empty one, or one with a bit past the last
+/// record.
+pub fn sets(random: &mut Random, directory: &Directory) -> Vec<u64> {
+    let most = MOST_SETS as u64;
+    let count = match random.below(20) {
+        0 => 0,
+        1 => most,
+        2 => most + 1,
+        3 => most + 1 + random.below(20),
+        4..=9 => 1,
+        _ => random.below(most + 1),
+    };
+    let mut sets: Vec<u64> = Vec::new();
+    for _ in 0..count {
+        let again = random.pick(&sets).filter(|_| random.percent(10));
+        sets.push(again.unwrap_or_else(|| declared(random, directory)));
+    }
+    let place = random.below(count) as usize;
+    if let Some(set) = sets.get_mut(place).filter(|_| random.percent(10)) {
+        let past = 1 << random.below(64);
+        *set = random.pick(&[0, *set | past, u64::MAX]).unwrap_or(0);
+    }
+    sets
+}
+
+/// A set that may be declared: one object, all, all but one, any.
+fn declared(random: &mut Random, directory: &Directory) -> u64 {
+    let all = directory.everything();
+    let one = 1 << random.below(directory.objects().len() as u64);
+    let set = match random.below(8) {
+        0..=2 => one,
+        3 => all,
+        4..=5 => all & !one,
+        _ => random.number() & all,
+    };
+    if set == 0 {
+        one
+    } else {
+        set
+    }
+}
+
 /// A record for a table, mostly a good one.
 pub fn record(random: &mut Random, seen: Seen, table: &[u8]) -> Record {
     let tail = seen.tail;
@@ -281,7 +324,9 @@ pub fn call(random: &mut Random, seen: Seen, place: usize) -> Call {
     let tail = seen.tail;
     match place {
         0 => Call::Check,
-        1 => Call::Owed,
+        1 => Call::Owed {
+            sets: sets(random, seen.directory),
+        },
         2 => Call::Entry {
             offset: offset(random, tail),
         },

@@ -12,7 +12,9 @@ use crate::library::*;
 #[derive(Clone, Debug)]
 pub enum Call {
     Check,
-    Owed,
+    Owed {
+        sets: Vec<u64>,
+    },
     Entry {
         offset: u64,
     },
@@ -59,7 +61,7 @@ pub enum Call {
 /// allows it.
 pub const NAMES: [(&str, &[u32]); 16] = [
     ("check", &[0, 1, 2]),
-    ("owed", &[0, 1, 2]),
+    ("owed", &[0, 1, 2, 3]),
     ("entry", &[0, 1, 2, 3]),
     ("header", &[0, 1, 2, 3]),
     ("items", &[0, 1, 2, 3]),
@@ -81,7 +83,7 @@ impl Call {
     pub fn place(&self) -> usize {
         match self {
             Call::Check => 0,
-            Call::Owed => 1,
+            Call::Owed { .. } => 1,
             Call::Entry { .. } => 2,
             Call::Header { .. } => 3,
             Call::Items { .. } => 4,
@@ -114,7 +116,8 @@ impl Call {
     /// The arguments in words, lent bytes in hex.
     pub fn shown(&self) -> String {
         match self {
-            Call::Check | Call::Owed => String::new(),
+            Call::Check => String::new(),
+            Call::Owed { sets } => format!("sets {sets:?}"),
             Call::Entry { offset } | Call::Items { offset } => format!("offset {offset}"),
             Call::Header { offset, place } => format!("offset {offset}, place {place}"),
             Call::StreamNext { object, from } => format!("object {object}, from {from}"),
@@ -178,7 +181,7 @@ pub fn by_reference(dir: &[u8], log: &mut [u8], tail: u64, call: &mut Call) -> S
     let tail = tail as usize;
     match call {
         Call::Check => boundary::check(dir, log, tail),
-        Call::Owed => boundary::owed(dir, log, tail),
+        Call::Owed { sets } => boundary::owed(dir, log, tail, sets),
         Call::Entry { offset } => boundary::entry(dir, log, tail, *offset),
         Call::Header { offset, place } => boundary::header(dir, log, tail, *offset, *place),
         Call::Items { offset } => boundary::items(dir, log, tail, *offset),
@@ -214,6 +217,7 @@ pub struct Library {
     /// Table, scratch, items or reads.
     bytes: Lent<u8>,
     list: Lent<u32>,
+    sets: Lent<u64>,
     calls: u64,
 }
 
@@ -227,6 +231,7 @@ impl Default for Library {
             log: Lent::new((MOST_SLOTS + 1) * SLOT, 0xC7),
             bytes: Lent::new(1 << 23, 0xC7),
             list: Lent::new(1 << 18, 0xC7C7_C7C7),
+            sets: Lent::new(1 << 10, 0xC7C7_C7C7_C7C7_C7C7),
             calls: 0,
         }
     }
@@ -254,6 +259,14 @@ fn lent_list(call: &Call) -> &[u32] {
     }
 }
 
+/// The sets declared.
+fn declared(call: &Call) -> &[u64] {
+    match call {
+        Call::Owed { sets } => sets,
+        _ => &[],
+    }
+}
+
 fn made(
     library: &mut Library,
     bytes_of_dir: &[u8],
@@ -266,12 +279,15 @@ fn made(
     let (log, log_len) = library.log.lend(bytes_of_log, closed);
     let (bytes, bytes_len) = library.bytes.lend(lent_bytes(call), closed);
     let (list, list_len) = library.list.lend(lent_list(call), closed);
+    let (sets, sets_len) = library.sets.lend(declared(call), closed);
     let out = library.out.lend();
     // Every pointer is to memory of the length beside it, which nobody else uses during the call.
     unsafe {
         match call {
             Call::Check => stocklog_check(dir, dir_len, log, log_len, tail, out),
-            Call::Owed => stocklog_owed(dir, dir_len, log, log_len, tail, out),
+            Call::Owed { .. } => {
+                stocklog_owed(dir, dir_len, log, log_len, tail, sets, sets_len, out)
+            }
             Call::Entry { offset } => {
                 stocklog_entry(dir, dir_len, log, log_len, tail, *offset, out)
             }
@@ -386,5 +402,6 @@ impl Library {
             .or_else(|| self.log.difference("log", log))
             .or_else(|| self.bytes.difference("table, scratch or items", bytes))
             .or_else(|| self.list.difference("list", lent_list(after)))
+            .or_else(|| self.sets.difference("declared sets", declared(after)))
     }
 }

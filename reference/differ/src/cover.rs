@@ -6,15 +6,17 @@ use reference::append::Request;
 use reference::boundary::Said;
 use reference::directory::Directory;
 use reference::header::{BackPointer, Header, FARTHEST};
+use reference::log::{owed, MOST_SETS};
 use reference::replica::{pointed_at, Record};
 use reference::rules::objects_written;
 use reference::slot::{reads_in, slot_at, writes_in, Kind, Read, MOST_HEADERS, SLOT};
 use reference::table::{capacity, in_order};
+use reference::Answer;
 
 use crate::calls::{Call, NAMES};
 
 /// Cases that must be met beside the numbers.
-pub const CASES: [&str; 34] = [
+pub const CASES: [&str; 38] = [
     "owed: an offset",
     "owed: none",
     "entry: update",
@@ -49,10 +51,14 @@ pub const CASES: [&str; 34] = [
     "append_commit: 16 past the first read",
     "append_commit: 16 where no slot is free",
     "append_commit: 0 with a commit record's version",
+    "owed: 3 for a 17th set",
+    "owed: 3 for an empty set",
+    "owed: none of 16 sets",
+    "owed: an offset for the last set alone",
 ];
 
 /// Cases of directories that must be met, beside 15 in every call.
-pub const DIRECTED_CASES: [&str; 8] = [
+pub const DIRECTED_CASES: [&str; 9] = [
     "15 at place 0",
     "15 past place 0",
     "15 at place 64",
@@ -61,6 +67,7 @@ pub const DIRECTED_CASES: [&str; 8] = [
     "play: 10 for a bit past the last record",
     "read_cell: 10 for a bit past the last record",
     "open_fresh: all of 64 objects",
+    "owed: 3 for a bit past the last record",
 ];
 
 /// Met on far logs alone.
@@ -88,7 +95,9 @@ impl Cover {
         };
         let directed = directed_case(dir, call, said).map(|place| DIRECTED_CASES[place]);
         let of_call = case_of(dir, log, call, said);
-        for case in of_call.into_iter().chain(of_commit).chain(directed) {
+        let of_sets = case_of_sets(dir, log, tail, call, said);
+        let cases = of_call.into_iter().chain(of_commit).chain(of_sets);
+        for case in cases.chain(directed) {
             *self.cases.entry(case).or_default() += 1;
         }
     }
@@ -150,6 +159,11 @@ fn directed_case(dir: &[u8], call: &Call, said: &Said) -> Option<usize> {
         let directory = Directory::of(dir).ok()?;
         (said.number == 10 && hosted & !directory.everything() != 0).then_some(())
     };
+    if let (Call::Owed { sets }, 3) = (call, said.number) {
+        let directory = Directory::of(dir).ok()?;
+        let past = sets.iter().any(|set| set & !directory.everything() != 0);
+        return (past && sets.len() <= MOST_SETS && !sets.contains(&0)).then_some(8);
+    }
     match call {
         Call::Append(Request::Checkpoint { record, .. }) => past(record.hosted).map(|()| 3),
         Call::OpenFresh { hosted: u64::MAX } if said.number == 0 => Some(7),
@@ -218,11 +232,34 @@ fn commit_cases(
         .collect()
 }
 
+/// What the number of declared sets, and the last of them, did to what is owed.
+fn case_of_sets(
+    dir: &[u8],
+    log: &[u8],
+    tail: u64,
+    call: &Call,
+    said: &Said,
+) -> Option<&'static str> {
+    let Call::Owed { sets } = call else {
+        return None;
+    };
+    let owes = match (said.number, said.out[0]) {
+        (0, 0) => return (sets.len() == MOST_SETS).then_some(CASES[36]),
+        (0, _) => true,
+        _ => false,
+    };
+    let (_, others) = sets.split_last()?;
+    let alone = || owed(dir, log, tail as usize, others) == Answer::Done(None);
+    (owes && !others.is_empty() && alone()).then_some(CASES[37])
+}
+
 fn case_of(dir: &[u8], log: &[u8], call: &Call, said: &Said) -> Option<&'static str> {
     let (number, out) = (said.number, &said.out);
     match (call, number) {
         (Call::Check, 2) => bad_header(log, out[3] as usize),
-        (Call::Owed, 0) => Some(["owed: none", "owed: an offset"][out[0] as usize]),
+        (Call::Owed { .. }, 0) => Some(["owed: none", "owed: an offset"][out[0] as usize]),
+        (Call::Owed { sets }, 3) if sets.len() > MOST_SETS => Some(CASES[34]),
+        (Call::Owed { sets }, 3) if sets.contains(&0) => Some(CASES[35]),
         (Call::Entry { .. }, 0) => Some(CASES[1 + out[0] as usize]),
         (Call::Header { .. }, 0) => Some(["header: format 0", FAR_CASE][out[1] as usize]),
         (Call::StreamNext { .. }, 0) => {

@@ -42,7 +42,7 @@ macro_rules! calls {
 
 calls! {
     stocklog_check(log: *const u8, log_len: usize, tail: u64);
-    stocklog_owed(log: *const u8, log_len: usize, tail: u64);
+    stocklog_owed(log: *const u8, log_len: usize, tail: u64, sets: *const u64, sets_len: usize);
     stocklog_entry(log: *const u8, log_len: usize, tail: u64, offset: u64);
     stocklog_header(log: *const u8, log_len: usize, tail: u64, offset: u64, place: u32);
     stocklog_items(log: *const u8, log_len: usize, tail: u64, offset: u64);

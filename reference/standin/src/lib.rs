@@ -62,8 +62,8 @@ calls! {
     dir
     stocklog_check(log: *const u8, log_len: usize, tail: u64) out 4 =>
         boundary::check(dir, lent(log, log_len), tail as usize);
-    stocklog_owed(log: *const u8, log_len: usize, tail: u64) out 4 =>
-        boundary::owed(dir, lent(log, log_len), tail as usize);
+    stocklog_owed(log: *const u8, log_len: usize, tail: u64, sets: *const u64, sets_len: usize) out 4 =>
+        boundary::owed(dir, lent(log, log_len), tail as usize, lent(sets, sets_len));
     stocklog_entry(log: *const u8, log_len: usize, tail: u64, offset: u64) out 8 =>
         boundary::entry(dir, lent(log, log_len), tail as usize, offset);
     stocklog_header(log: *const u8, log_len: usize, tail: u64, offset: u64, place: u32) out 4 =>
