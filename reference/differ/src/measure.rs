@@ -3,6 +3,7 @@
 use reference::append::Request;
 use reference::boundary::{self, Said};
 use reference::directory::{eight, Directory};
+use reference::log::MOST_SETS;
 use reference::replica::{play, Record};
 use reference::sample::{read, read_bytes};
 use reference::slot::{Read, MOST_ITEMS, SLOT};
@@ -10,12 +11,14 @@ use reference::table::{rows, CELL};
 
 use crate::library::{
     stocklog_append_commit, stocklog_append_update, stocklog_audit, stocklog_check,
-    stocklog_open_fresh, stocklog_play, Hosted,
+    stocklog_open_fresh, stocklog_owed, stocklog_play, Hosted,
 };
 use crate::workload::Made;
 
 /// The append is of an update.
-pub const CALLS: [&str; 5] = ["check", "append", "commit", "play", "audit"];
+pub const CALLS: [&str; 6] = ["check", "owed", "append", "commit", "play", "audit"];
+/// Those of the plot and of the logs made to be slow.
+pub const PLOTTED: [&str; 4] = ["check", "append", "play", "audit"];
 
 #[derive(Clone, Copy, Debug, PartialEq, Eq)]
 pub enum Side {
@@ -71,13 +74,17 @@ struct Lent {
     number: u32,
     items: Vec<u8>,
     reads: Vec<u8>,
+    /// What is declared: as many sets as may be, each of all objects, so that every commit record without a decision is asked for each
+    /// of them, and none owes.
+    sets: [u64; MOST_SETS],
     /// The replica that is played.
     record: Record,
 }
 
 /// Nanoseconds of one call, the least of those made in so many nanoseconds or of three, and its answer in words.
 pub fn measured(call: &str, made: Made, side: Side, time: f64) -> (f64, String) {
-    let (record, rows) = made.replica.unwrap_or((fresh(&made.dir), Vec::new()));
+    let everything = fresh(&made.dir);
+    let (record, rows) = made.replica.unwrap_or((everything, Vec::new()));
     let mut lent = Lent {
         dir: made.dir,
         tail: made.log.len() / SLOT,
@@ -86,6 +93,7 @@ pub fn measured(call: &str, made: Made, side: Side, time: f64) -> (f64, String) 
         number: made.number,
         items: made.items,
         reads: made.reads.unwrap_or_default(),
+        sets: [everything.hosted; MOST_SETS],
         record,
     };
     if call == "commit" && lent.reads.is_empty() {
@@ -167,6 +175,31 @@ pub fn takes_directory() -> bool {
     number == 0 && out == [1, 0, 0, 0]
 }
 
+/// Whether the library has a call as it is now. Before sets were declared, what is owed took none: the place of the sets was that of
+/// `out`, so that they have room for it here; it is then done, and now it is 3.
+pub fn has(call: &str) -> bool {
+    let mut sets = [0; 4];
+    let mut out = [0; 4];
+    match call {
+        // The pointers are to memory of the length beside them, or of four places, whichever of the two the library takes.
+        "owed" => unsafe {
+            let (dir, log) = (eight(), [0; 0]);
+            let number = stocklog_owed(
+                dir.as_ptr(),
+                dir.len(),
+                log.as_ptr(),
+                0,
+                0,
+                sets.as_mut_ptr(),
+                1,
+                out.as_mut_ptr(),
+            );
+            number == 3
+        },
+        _ => CALLS.contains(&call),
+    }
+}
+
 fn call_made(call: &str, side: Side, lent: &mut Lent) -> Said {
     match side {
         Side::Reference => by_reference(call, lent),
@@ -179,6 +212,7 @@ fn by_reference(call: &str, lent: &mut Lent) -> Said {
     let tail = lent.tail;
     match call {
         "check" => boundary::check(&lent.dir, &lent.log, tail),
+        "owed" => boundary::owed(&lent.dir, &lent.log, tail, &lent.sets),
         "append" => {
             let request = Request::Update {
                 number: lent.number,
@@ -216,6 +250,10 @@ fn by_library(call: &str, lent: &mut Lent) -> Said {
     let number = unsafe {
         match call {
             "check" => stocklog_check(dir, dir_len, log, log_len, tail, to),
+            "owed" => {
+                let (sets, sets_len) = (lent.sets.as_ptr(), lent.sets.len());
+                stocklog_owed(dir, dir_len, log, log_len, tail, sets, sets_len, to)
+            }
             "append" => {
                 let (items, items_len) = (lent.items.as_ptr(), lent.items.len());
                 stocklog_append_update(

@@ -1,7 +1,7 @@
 //! The page that the benchmark writes: a part about the depots' logs, and a section about logs that are made to be slow. Each is
 //! written by a run of its own, which leaves the other as it is.
 
-use crate::measure::CALLS;
+use crate::measure::{CALLS, PLOTTED};
 use crate::plot::Line;
 use crate::points::{two_places, Column, Point, Row};
 use crate::processor::processor;
@@ -41,19 +41,19 @@ pub fn table(rows: &[Row], columns: &[Column], limit: u64) -> String {
     text
 }
 
-/// How many times as long an append, or a commit, takes as a check of the same log.
-pub fn appends(call: &str, rows: &[Row], columns: &[Column]) -> String {
+/// How many times as long a call takes as a check of the same log.
+pub fn beside_check(call: &str, rows: &[Row], columns: &[Column]) -> String {
     let mut words = vec![format!("{call} / check, entries")];
     words.extend(columns.iter().map(|column| column.words.to_string()));
     let mut text = head(&words);
-    for append in rows.iter().filter(|row| row.call == call) {
-        let mut words = vec![append.size.to_string()];
+    for of_call in rows.iter().filter(|row| row.call == call) {
+        let mut words = vec![of_call.size.to_string()];
         for place in 0..columns.len() {
-            let mut same = rows.iter().filter(|row| row.size == append.size);
+            let mut same = rows.iter().filter(|row| row.size == of_call.size);
             let check = same.find(|row| row.call == "check");
             let check = check.and_then(|row| row.points[place].each(row.size));
-            let ratio = append.points[place].each(append.size).zip(check);
-            words.push(two_places(ratio.map(|(append, check)| append / check)));
+            let ratio = of_call.points[place].each(of_call.size).zip(check);
+            words.push(two_places(ratio.map(|(whole, check)| whole / check)));
         }
         text += &format!("| {} |\n", words.join(" | "));
     }
@@ -74,11 +74,10 @@ of the small objects, and checkpoints of them in turn, each of all its cells.\n"
     text
 }
 
-/// The lines of the plot, which leaves the commit, the landing before and other directories out.
+/// The lines of the plot, which leaves some calls, the landing before and other directories out.
 pub fn lines(rows: &[Row], columns: &[Column]) -> Vec<Line> {
     let mut lines = Vec::new();
-    let plotted = CALLS.into_iter().filter(|call| *call != "commit");
-    for (colour, call) in plotted.enumerate() {
+    for (colour, call) in PLOTTED.into_iter().enumerate() {
         for (place, column) in columns.iter().enumerate() {
             if column.before.is_some() {
                 continue;
@@ -117,10 +116,11 @@ pub fn depots(tables: &str, before: bool, plot: Option<&str>, old: &str) -> Stri
         "# Speed\n\n\
 One call of the proved library, through its C interface, and of the second implementation (`reference/`, plain Rust with a quick\n\
 hash map for transaction numbers and arrays for all else), on the same logs in one run: processor time of the call in nanoseconds,\n\
-divided by the entries of the log. Every call checks the whole log first, so an append too costs time for each entry. The append is of\n\
+divided by the entries of the log. Every call checks the whole log first, so an append too costs time for each entry. To owed 16 sets are\n\
+declared, each of all objects: every commit record without a decision is asked for each set, and none owes. The append is of\n\
 an update with a number that is new, in place of the last entry. The commit is of that number, whose one update then is the last entry\n\
 but one; it has 12 reads, spread over all cells, with the versions that a replica shows. The least of several calls is shown. Both sides\n\
-gave the same answers and left the same bytes. `tools/bench` makes this page and the plot, which leaves the commit out.{before}\n\n\
+gave the same answers and left the same bytes. `tools/bench` makes this page and the plot, which leaves owed and the commit out.{before}\n\n\
 The logs: plain updates, transactions of 1 to 4 updates with 1 to 4 reads, three in a hundred of them stale, decision records for\n\
 reads of marked objects, a checkpoint of the van or a register now and then; 6,000 patients, 8,000 orders, 500 items a depot.\n\n\
 Processor: {}.\n\n{tables}{picture}{section}",

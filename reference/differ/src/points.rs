@@ -8,6 +8,9 @@ use std::{env, thread};
 
 use crate::measure::Side;
 
+/// The calls that the archive of a landing before may not have as they are now.
+const SINCE: [&str; 1] = ["owed"];
+
 /// What is asked of a run.
 #[derive(Clone)]
 pub struct Asked {
@@ -65,6 +68,8 @@ pub struct Column {
     pub call: Option<&'static str>,
     /// The benchmark of another landing.
     pub before: Option<String>,
+    /// Calls that the archive of another landing does not have as they are now.
+    pub without: Vec<&'static str>,
 }
 
 impl Column {
@@ -75,6 +80,7 @@ impl Column {
             log,
             call: None,
             before: None,
+            without: Vec::new(),
         }
     }
 
@@ -85,6 +91,22 @@ impl Column {
             log,
             call: None,
             before: None,
+            without: Vec::new(),
+        }
+    }
+
+    /// The archive of another landing, by its benchmark.
+    pub fn landing_before(program: &str) -> Column {
+        let has = |call: &str| {
+            let mut asked = Command::new(program);
+            asked.args(["--has", call]).stderr(Stdio::null());
+            asked.status().is_ok_and(|status| status.success())
+        };
+        Column {
+            words: "landing before",
+            before: Some(program.to_string()),
+            without: SINCE.into_iter().filter(|call| !has(call)).collect(),
+            ..Column::library(None)
         }
     }
 
@@ -236,7 +258,8 @@ fn points(
 /// The rows of a call, a size after the other.
 pub fn rows(call: &'static str, columns: &[Column], asked: &Asked) -> Result<Vec<Row>, String> {
     let mut rows = Vec::new();
-    let mut slow = vec![false; columns.len()];
+    let left_out = |column: &Column| column.without.contains(&call);
+    let mut slow: Vec<bool> = columns.iter().map(left_out).collect();
     for &size in &asked.sizes {
         let points = points(call, size, columns, &slow, asked)?;
         for (slow, point) in slow.iter_mut().zip(&points) {

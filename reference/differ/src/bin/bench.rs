@@ -1,5 +1,5 @@
-//! The benchmark: check, append, commit, play of all and audit, by the library under test and by the second implementation,
-//! on the same logs.
+//! The benchmark: check, owed, append, commit, play of all and audit, by the library under test and by the second
+//! implementation, on the same logs.
 //!
 //! usage: bench [--worst] [--sizes N,N,..] [--limit SECONDS] [--seed S] [--stride T] [--rounds R] [--before BENCH] [--report FILE] [--plot FILE]
 //!
@@ -8,13 +8,14 @@
 //! out. The sides take turns, so many rounds of them (3 unless it is given), and the least time counts. Transaction
 //! numbers are multiples of the stride, 1 unless it is given. Both sides must give the same answer, `out` and bytes.
 //! `--before` names this program as it was linked with the archive of another landing: that archive is measured in the
-//! same run, and must give the same answer and `out`; the layout of its bytes may be another one. `--report` writes the
-//! table with some words of explanation, `--plot` a plot as SVG.
+//! same run, and must give the same answer and `out`; the layout of its bytes may be another one. A call that it does not have as it is
+//! now is left out there. `--report` writes the table with some words of explanation, `--plot` a plot as SVG.
 //!
 //! After the logs of the eight come those over a directory of 64 sparse ids, of 16,384 entries and more where there are such sizes;
 //! the archive of the other landing is not measured on them.
 //!
 //! `bench --takes-directory` has status 0 where the linked archive takes a directory; else it is ended by a signal, as likely as not.
+//! `bench --has CALL` has status 0 where it has that call as it is now.
 //!
 //! With `--worst` the logs are those that are made to be slow, each beside one that is not, and some whose commit is
 //! measured beside their check; it prints which rows take over 3 times as long, and `--report` writes a section of the page. Seed, stride, `--before` and `--plot` do nothing then.
@@ -22,7 +23,7 @@
 use std::process::ExitCode;
 use std::{env, fs};
 
-use differ::measure::{measured, takes_directory, Side, CALLS};
+use differ::measure::{has, measured, takes_directory, Side, CALLS, PLOTTED};
 use differ::page::{self, Slow};
 use differ::plot::plot;
 use differ::points::{rows, Asked, Column};
@@ -136,12 +137,8 @@ fn point(wanted: &Wanted, options: &Options) -> Result<(), String> {
 /// The second implementation is the last of them.
 fn columns(before: &Option<String>) -> Vec<Column> {
     let mut columns = vec![Column::library(None)];
-    if before.is_some() {
-        columns.push(Column {
-            words: "landing before",
-            before: before.clone(),
-            ..Column::library(None)
-        });
+    if let Some(program) = before {
+        columns.push(Column::landing_before(program));
     }
     columns.push(Column::reference(None));
     columns
@@ -181,9 +178,9 @@ fn depots(options: &Options) -> Result<(), String> {
         all.extend(rows(call, &columns, &options.asked)?);
     }
     let table = page::table(&all, &columns, options.asked.limit);
-    let [appends, commits] = ["append", "commit"].map(|call| page::appends(call, &all, &columns));
+    let beside = ["owed", "append", "commit"].map(|call| page::beside_check(call, &all, &columns));
     let sparse = sparse(options)?;
-    let tables = format!("{table}\n{appends}\n{commits}\n{sparse}");
+    let tables = format!("{table}\n{}\n{sparse}", beside.join("\n"));
     print!("{tables}");
     if let Some(file) = &options.plot {
         store(file, &plot(&page::lines(&all, &columns)))?;
@@ -211,7 +208,7 @@ fn worst(options: &Options) -> Result<(), String> {
             Column::reference(Some(log.name)),
         ];
         let mut of_log = Vec::new();
-        for call in CALLS.into_iter().filter(|call| *call != "commit") {
+        for call in PLOTTED {
             of_log.extend(rows(call, &columns, asked)?);
         }
         all.push(Slow {
@@ -256,8 +253,12 @@ fn run(options: &Options) -> Result<(), String> {
 }
 
 fn main() -> ExitCode {
-    if env::args().skip(1).eq(["--takes-directory".to_string()]) {
-        return ExitCode::from(u8::from(!takes_directory()));
+    let words: Vec<String> = env::args().skip(1).collect();
+    let words: Vec<&str> = words.iter().map(String::as_str).collect();
+    match words[..] {
+        ["--takes-directory"] => return ExitCode::from(u8::from(!takes_directory())),
+        ["--has", call] => return ExitCode::from(u8::from(!has(call))),
+        _ => {}
     }
     let Some(options) = options() else {
         eprintln!("{USAGE}");
