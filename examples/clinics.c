@@ -1,7 +1,7 @@
 /*
  * Two clinics on the shared stock log, over the C interface. Each has a log of its own and a directory of its own, which says what its
- * objects are; the directory goes first in every call on that log. Shown are directories with a fault, hosted sets by place, ids and
- * keys at their edges, and what a call says of a log that is handed with another directory.
+ * objects are; the directory goes first in every call on that log. Shown are directories with a fault, hosted and declared sets by
+ * place, ids and keys at their edges, and what a call says of a log that is handed with another directory.
  * examples/run compiles it, runs it and compares what it prints with examples/clinics.expected.
  */
 #include "stocklog.h"
@@ -132,6 +132,28 @@ static void follow(const struct clinic *c, struct replica *r, uint64_t hosted)
            (unsigned long long)r->position, (unsigned long long)r->count);
 }
 
+/* What is owed to a replica of a set of places; where something is, the decision is given, for the transaction went through. */
+static void settle(struct clinic *c, uint64_t hosted)
+{
+    uint64_t out[4];
+    uint32_t result = stocklog_owed(c->dir, c->dir_len, c->log, sizeof c->log, c->tail, &hosted, 1, out);
+    printf("%s, to hosted set %llu: ", c->name, (unsigned long long)hosted);
+    if (result != STOCKLOG_DONE) {
+        printf("refused %lu\n", (unsigned long)result);
+    } else if (out[0] == 0) {
+        printf("nothing is owed\n");
+    } else {
+        printf("a decision is owed for %llu", (unsigned long long)out[1]);
+        result = stocklog_append_decision(c->dir, c->dir_len, c->log, sizeof c->log, c->tail, out[1], STOCKLOG_COMMITTED, out);
+        if (result == STOCKLOG_DONE) {
+            printf(", and made at %llu\n", (unsigned long long)c->tail);
+            c->tail = out[0];
+        } else {
+            printf(", refused %lu\n", (unsigned long)result);
+        }
+    }
+}
+
 static void show(const struct clinic *c, const struct replica *r, uint32_t object, uint32_t key)
 {
     uint64_t out[4];
@@ -178,7 +200,7 @@ static void faults(const struct clinic *c)
 int main(void)
 {
     static struct clinic east = {"east", {0}, 0, {0}, 0}, west = {"west", {0}, 0, {0}, 0};
-    static struct replica orders, batches, chairs;
+    static struct replica orders, batches, numbers, chairs;
     uint64_t out[4];
 
     lists(&east, SHELVES, 99, STOCKLOG_MAP, 0);
@@ -195,7 +217,7 @@ int main(void)
     put(&east, 0, BATCHES, UINT32_C(4294967295), 5);
     put(&east, 0, CHAIRS, 0, 1);
 
-    /* An order in the east: it reads the shelf, and sets the number that a marked register holds. */
+    /* An order in the east: it reads the shelf, and sets the number that a register holds. */
     put(&east, 1, NEXT_ORDER, 0, 301);
     commit(&east, 1, SHELVES, 7, 1);
 
@@ -211,6 +233,16 @@ int main(void)
     follow(&east, &batches, 4);
     show(&east, &batches, BATCHES, LAST_BATCH);
     follow(&east, &batches, 8);
+
+    /* Who hosts the order's number alone does not see the shelf that was read, and waits until the decision is there. */
+    follow(&east, &numbers, 2);
+    settle(&east, 1);
+    settle(&east, 3);
+    settle(&east, 8);
+    settle(&east, 2);
+    settle(&east, 2);
+    follow(&east, &numbers, 2);
+    show(&east, &numbers, NEXT_ORDER, 0);
     follow(&west, &chairs, 1);
     show(&west, &chairs, CHAIRS, 11);
 

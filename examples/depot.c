@@ -1,6 +1,7 @@
 /*
- * A depot's day on the shared stock log, over the C interface: plain updates, two transactions that read the same cell, a decision
- * record, a van's replica that waits for it and goes on, a checkpoint, a client that sends an offset for a version, and the audit.
+ * A depot's day on the shared stock log, over the C interface: plain updates, two transactions that read the same cell, replicas of a
+ * van and of a planner that wait for decision records and go on when all that is owed to them is paid, a checkpoint, a client that sends
+ * an offset for a version, and the audit.
  * examples/run compiles it, runs it and compares what it prints with examples/depot.expected.
  */
 #include "stocklog.h"
@@ -12,7 +13,11 @@ enum { SLOTS = 16, CELLS = 32, NORTH = 2, VAN = 4, ORDERS = 5, PRICES = 7, FILTE
 
 /* The directory of the eight objects, which goes first in every call. Its places are the ids less 1. */
 #define DEPOTS stocklog_eight, sizeof stocklog_eight
-enum { ALL = 0xff };
+enum { ALL = 0xff, VAN_ALONE = 1 << (VAN - 1), ORDERS_ALONE = 1 << (ORDERS - 1) };
+
+/* What the replicas beside the depot's own host: the van its stock, the planner the orders. Decisions are owed to these sets. */
+static const uint64_t declared[] = {VAN_ALONE, ORDERS_ALONE};
+enum { DECLARED = sizeof declared / sizeof declared[0] };
 
 static uint8_t log_bytes[SLOTS * STOCKLOG_SLOT_SIZE];
 static uint64_t tail = 0;
@@ -123,15 +128,47 @@ static void show(const char *whose, const struct replica *r, uint32_t object, ui
         printf("%llu, version %llu\n", (unsigned long long)out[1], (unsigned long long)out[2]);
 }
 
-static uint64_t owed(void)
+/* Whether a commit record owes a decision to one of the sets, and the offset of the lowest that does. */
+static int owed(const uint64_t *sets, size_t count, uint64_t *offset)
 {
     uint64_t out[4];
-    stocklog_owed(DEPOTS, log_bytes, sizeof log_bytes, tail, out);
-    if (out[0] == 0)
+    uint32_t result = stocklog_owed(DEPOTS, log_bytes, sizeof log_bytes, tail, sets, count, out);
+    printf("sets declared: %lu, ", (unsigned long)count);
+    if (result != STOCKLOG_DONE)
+        printf("refused %lu\n", (unsigned long)result);
+    else if (out[0] == 0)
         printf("no decision is owed\n");
     else
         printf("a decision is owed for the commit record at %llu\n", (unsigned long long)out[1]);
-    return out[1];
+    *offset = out[1];
+    return result == STOCKLOG_DONE && out[0] == 1;
+}
+
+/* The outcome of a commit record whose transaction writes the north depot's filters: a replica of all objects that has just played it
+   shows its version there, or an older one. */
+static uint32_t outcome(uint64_t commit_record)
+{
+    static struct replica all;
+    uint64_t out[4];
+    open_fresh(&all, ALL);
+    stocklog_play(DEPOTS, log_bytes, sizeof log_bytes, tail, all.hosted, all.position, all.count, all.table, sizeof all.table,
+                  commit_record + 1, out);
+    keep(&all, out);
+    stocklog_read_cell(DEPOTS, all.hosted, all.position, all.count, all.table, sizeof all.table, NORTH, FILTER, out);
+    return out[2] == commit_record + 1 ? STOCKLOG_COMMITTED : STOCKLOG_ABORTED;
+}
+
+/* Pays all that is owed to the declared sets, the lowest first. */
+static void pay(void)
+{
+    uint64_t commit_record, out[4];
+    while (owed(declared, DECLARED, &commit_record)) {
+        uint32_t said = outcome(commit_record);
+        uint32_t result = stocklog_append_decision(DEPOTS, log_bytes, sizeof log_bytes, tail, commit_record, said, out);
+        appended(said == STOCKLOG_COMMITTED ? "the depot decides: committed" : "the depot decides: aborted", result, out);
+        if (result != STOCKLOG_DONE)
+            return;
+    }
 }
 
 static void audit(const char *what, const uint8_t *log, uint64_t upto)
@@ -181,16 +218,16 @@ static void liar(uint64_t commit_record)
     static uint8_t copy[sizeof log_bytes];
     uint64_t out[4];
     memcpy(copy, log_bytes, sizeof copy);
-    if (stocklog_append_decision(DEPOTS, copy, sizeof copy, tail, commit_record, STOCKLOG_COMMITTED, out) == STOCKLOG_DONE)
+    if (stocklog_append_decision(DEPOTS, copy, sizeof copy, tail, commit_record, STOCKLOG_ABORTED, out) == STOCKLOG_DONE)
         audit("with a false decision, the audit", copy, out[0]);
 }
 
 int main(void)
 {
-    static struct replica depot, van, second;
+    static struct replica depot, van, planner, second;
     struct items morning = {{0}, 0}, moves = {{0}, 0}, orders = {{0}, 0}, read9 = {{0}, 0}, read10 = {{0}, 0};
     struct items returns = {{0}, 0}, wrong = {{0}, 0}, right = {{0}, 0};
-    uint64_t out[4], first_commit, second_commit, checkpoint;
+    uint64_t out[4], first_commit, last_commit, checkpoint, offset;
 
     /* The morning's counts: 43 filters in the north depot, 6 in the van; price list 12. */
     put(&morning, NORTH, FILTER, 43);
@@ -210,7 +247,6 @@ int main(void)
     first_commit = tail;
     commit("transaction 9 commits", 9, &read9);
     seen(&read10, NORTH, FILTER, 1);
-    second_commit = tail;
     commit("transaction 10 commits", 10, &read10);
     update("transaction 9 once more", 9, &moves);
 
@@ -221,18 +257,24 @@ int main(void)
     show("the depot", &depot, ORDERS, FILTER);
 
     /* The van hosts its own stock alone. It cannot judge transaction 9, which read the north depot's cell too: it waits. */
-    open_fresh(&van, (uint64_t)1 << (VAN - 1));
+    open_fresh(&van, VAN_ALONE);
     play("the van", &van);
     show("the van", &van, VAN, FILTER);
     show("the van", &van, NORTH, FILTER);
 
-    /* The van's stock is a marked object, so that commit record owes a decision; the depot gives it, and the van goes on. */
-    if (owed() == first_commit)
-        appended("the depot decides",
-                 stocklog_append_decision(DEPOTS, log_bytes, sizeof log_bytes, tail, first_commit, STOCKLOG_COMMITTED, out), out);
-    owed();
+    /* The planner hosts the orders alone, and waits at transaction 10, which read the north depot's cell. */
+    open_fresh(&planner, ORDERS_ALONE);
+    play("the planner", &planner);
+
+    /* Nothing is owed to nobody, nor to who hosts all. To the van the first commit record owes a decision, to the planner the second;
+       the depot pays both, and neither is left waiting. */
+    owed(declared, 0, &offset);
+    owed(&depot.hosted, 1, &offset);
+    pay();
     play("the van", &van);
     show("the van", &van, VAN, FILTER);
+    play("the planner", &planner);
+    show("the planner", &planner, ORDERS, FILTER);
 
     /* The evening: a checkpoint of the van's stock, from which a second van starts. */
     play("the depot", &depot);
@@ -257,6 +299,7 @@ int main(void)
     commit("transaction 11 commits with an offset", 11, &wrong);
     seen(&right, NORTH, FILTER, 4);
     seen(&right, VAN, FILTER, 4);
+    last_commit = tail;
     commit("transaction 11 commits", 11, &right);
     play("the depot", &depot);
     show("the depot", &depot, VAN, FILTER);
@@ -265,6 +308,6 @@ int main(void)
     entry(first_commit);
     stream(VAN);
     audit("the audit", log_bytes, tail);
-    liar(second_commit);
+    liar(last_commit);
     return 0;
 }

@@ -20,7 +20,7 @@
  * WHAT IS ASKED OF THE CALLER. No call can test it, and nothing is promised of one for which it does not hold.
  *
  * - A slice is memory of its whole length, readable, and writable where the pointer is not to const. Byte slices need no alignment;
- *   a list is aligned as uint32_t is. An empty slice may have any pointer, a null one too: it is not followed.
+ *   a list is aligned as uint32_t is, declared sets as uint64_t are. An empty slice may have any pointer, a null one too: it is not followed.
  * - out is not null, is aligned as uint64_t is, and has all its places: 4, for stocklog_entry 8.
  * - What a call may write (out, and a log, table or list whose pointer is not to const) overlaps nothing else that is handed to it.
  *   What it only reads may overlap.
@@ -40,7 +40,7 @@
  *   bytes 4-7    id, from 1 to 2,147,483,647; ids ascend strictly from place to place
  *   bytes 8-11   highest key: of a map from 0 to 4,294,967,294, of a register 0
  *   byte 12      kind: 1 map, 2 register
- *   byte 13      marked: 1 or 0; a commit record that reads a marked object owes a decision record (stocklog_owed)
+ *   byte 13      marked: 1 or 0; it is judged, and no call uses it otherwise (earlier versions did in stocklog_owed)
  *   bytes 14-15  0
  * A directory that is anything else gets STOCKLOG_DIRECTORY from every call, and out[3] tells the first place at fault, from 0: where a
  * record breaks these rules, or its id is not above the one before; where it is cut, or, of a directory of no bytes, missing; place
@@ -134,7 +134,8 @@ enum {
     STOCKLOG_RECORD_SIZE = 16,
     STOCKLOG_MOST_SLOTS = 131072,
     STOCKLOG_MOST_ITEMS = 12,
-    STOCKLOG_MOST_OBJECTS = 64
+    STOCKLOG_MOST_OBJECTS = 64,
+    STOCKLOG_MOST_SETS = 16 /* declared to stocklog_owed */
 };
 
 /* Kinds of object, in a directory's record. */
@@ -171,11 +172,19 @@ uint32_t stocklog_check(
     const uint8_t *dir, size_t dir_len, const uint8_t *log, size_t log_len, uint64_t tail, uint64_t out[4]);
 
 /*
- * The lowest commit record that owes a decision record: it reads a marked object and no decision names it.
- * Done: out[0] is 1 and out[1] its offset; or out[0] and out[1] are 0 where none owes. Refusals: 15, 1, 2.
+ * The lowest commit record that owes a decision record to one of the declared sets. Declared are up to 16 sets, as hosted sets are: bit
+ * k for the object at place k of the directory. They say what replicas host that shall not be left waiting. A commit record owes where
+ * some declared set has an object of its headers (those that its transaction's updates write) but not all objects that it reads, and no
+ * decision record below the tail names it; whether a decision is true does not matter here. With no set declared nothing is owed, and
+ * to a set of all objects nothing is. A set may be declared twice, and their order does not matter.
+ * Where nothing is owed, no stocklog_play on this log with this tail answers 12 to a record that hosts one of the sets. To pay, append
+ * a decision record for the offset told, and ask again: a decision makes no new debt.
+ * Done: out[0] is 1 and out[1] its offset; or out[0] and out[1] are 0 where none owes. Refusals: 15, 1, 2, 3 (over 16 sets, a set that is
+ * 0, or one with a bit past the directory's last record).
  */
 uint32_t stocklog_owed(
-    const uint8_t *dir, size_t dir_len, const uint8_t *log, size_t log_len, uint64_t tail, uint64_t out[4]);
+    const uint8_t *dir, size_t dir_len, const uint8_t *log, size_t log_len, uint64_t tail, const uint64_t *sets,
+    size_t sets_len, uint64_t out[4]);
 
 /*
  * The entry at an offset. Note the eight places of out.
