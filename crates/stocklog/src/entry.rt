@@ -9,6 +9,9 @@ ghost use Rattle.stocklog.specs.Replies.{reply, coded, noValues, infoVal
 ghost use Rattle.stocklog.specs.Numbers.{numbersIn};
 use crate::numbers::Numbers;
 use answers::Refusal;
+use codec::layout::ITEM_SIZE;
+use codec::layout::ITEMS_BEGIN;
+use codec::layout::SLOT_SIZE;
 use codec::marks::Mark;
 use codec::names::Offset;
 use entries::calls::Found;
@@ -115,6 +118,13 @@ pub extern "C" fn stocklog_header(
     crate::numbers::put(out, of_found(f, place))
 }
 
+// The sizes and the place by which an item list lies in the log, as numbers of 64 bits.
+const SLOT: u64 = SLOT_SIZE as u64;
+
+const ITEMS: u64 = ITEMS_BEGIN as u64;
+
+const ITEM: u64 = ITEM_SIZE as u64;
+
 // Where the items lie in the log: byte position and length. That part of the log's own bytes is the item list.
 #[no_mangle]
 pub extern "C" fn stocklog_items(
@@ -133,8 +143,8 @@ pub extern "C" fn stocklog_items(
             return crate::numbers::put(out, crate::numbers::refusal(r, 0, 0, 0));
         }
         Found::Entry(i) => {
-            let at = 256 * offset + 56;
-            let n = 16 * (i.items as u64);
+            let at = SLOT * offset + ITEMS;
+            let n = ITEM * (i.items as u64);
             return crate::numbers::put(out, crate::numbers::done(at, n, 0));
         }
     }
