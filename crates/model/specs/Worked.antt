@@ -579,6 +579,8 @@ debts =
     ∷ owing eight reads8 2 (254 ∷ 127 ∷ 253 ∷ []) 0 (some 1)
     ∷ owing eight reads8 2 (255 ∷ 127 ∷ []) 0 (some 1)
     ∷ owing eight reads8 2 (255 ∷ 205 ∷ []) 0 none
+    -- one of three header objects is enough
+    ∷ owing eight reads8 2 (16 ∷ []) 0 (some 1)
     -- a commit without reads
     ∷ owing eight (update 9 (put 5 1 6) ∷ commits 9 [] ∷ []) 2 (16 ∷ []) 0 none
     -- sixteen sets and seventeen; an empty one; bits past the directory, in the first set and in the last
