@@ -1,10 +1,8 @@
 -- Decisions owed of calls: owed calls, plays and decisions are the model's by their contracts, so what is proved of the definitions holds of them.
 use Prim.Native.Nat.{ℕ, _<_}
 use mathlib.Core.Path.{_≡_, refl, ap, sym, _∙_, subst}
-use mathlib.Core.List.{List, List·Memᴰ}
-use mathlib.Core.Option.{some}
+use mathlib.Core.List.{List}
 use Rattle.model.specs.Directory.{shapeOf}
-use Rattle.model.specs.Answers.{done}
 use Rattle.model.specs.Append as model
 use Rattle.model.specs.Append.{decides}
 use Rattle.model.specs.Replica.{Left}
@@ -15,9 +13,9 @@ use Rattle.codec.specs.Eight.{inLog}
 use Rattle.entries.specs.Answers.{owedIn}
 use Rattle.append.specs.declared.write.Appended.the-variants as appended
 use Rattle.records.specs.Record.{replicaIn}
-use Rattle.calls.specs.Values.{AppendCall, seen, Grows, leftBy, OwedCall, carry, stopOf}
+use Rattle.calls.specs.Values.{AppendCall, seen, Grows, leftBy, stopOf}
 use Rattle.calls.specs.Claims.{lentAt}
-use Rattle.calls.specs.Owed.{CallsNoneWait, CallsOweExactly, leftAt, CallsPaid, CallsPay}
+use Rattle.calls.specs.Owed.{CallsNoneWait, CallsOweExactly, leftAt, CallsPay}
 use Rattle.calls.proofs.Promises.{owed-promise, play-promise}
 use Rattle.calls.proofs.Histories.{requests}
 use Rattle.calls.proofs.Appends.{accepted-so, after-so, later-so}

@@ -9,22 +9,22 @@ use native.Mathlib.Omega.{arith}
 use borrow.Author.Tests.{eqb-true, eqb-false, ltb-false, le-ltb}
 use lib.Dec.{eqb, ltb}
 use lib.ListN.{length}
-use Rattle.lists.specs.Tests.{ors, or-l, or-r, neither, clash}
+use Rattle.lists.specs.Tests.{or-l, or-r, neither, clash}
 use Rattle.lists.specs.Sets.{any}
 use Rattle.lists.specs.Members.{any-in, in-any}
 use Rattle.model.specs.Objects.{Shape, hosted, badSet}
 use Rattle.model.specs.Entries.{Write, Entry, plain, numbered, commit, decision, checkpoint, blank, Log}
 use Rattle.model.specs.Slot.{logIn, okShape}
 use Rattle.model.specs.Rules.{lowest, lowestBad}
-use Rattle.model.specs.Table.{Cell, cellsOf, capacity}
-use Rattle.model.specs.Play.{Played, going, waits, lacks, waitsAt, play}
+use Rattle.model.specs.Table.{cellsOf, capacity}
+use Rattle.model.specs.Play.{Played, going, waits, lacks, waitsAt}
 use Rattle.model.specs.Answers.{Refusal, Answer, done, refused, refuse, refuseAt, firstOf, answer, badFrame, frameAndEntries}
 use Rattle.model.specs.Reading.{mostSets, badSets, owes, owed}
-use Rattle.model.specs.Append.{Replica, badReplica, Request, decides, decisionOf, entryOf}
+use Rattle.model.specs.Append.{badReplica, Request, decides, decisionOf, entryOf}
 use Rattle.model.specs.Replica.{plainly, badStop, playRefusal, leftBy, playGiven, playFrom, playCall}
 use Rattle.model.specs.Histories.{Lent, inLog, isRefused, Accepted, after, grown}
-use Rattle.model.specs.Terms.{SetAside, Concerns, Decided, Blocked}
-use Rattle.model.specs.OwedClaims.{NoneWaits, Owes, Declarable, GoodLog, Answers, OwesExactly, Paid, Pays}
+use Rattle.model.specs.Terms.{SetAside, Decided, Blocked}
+use Rattle.model.specs.OwedClaims.{NoneWaits, Owes, Declarable, GoodLog, OwesExactly, Pays}
 use Rattle.model.specs.Worked.{code}
 use Rattle.laws.proofs.Directory.{set-words, words-set}
 use Rattle.laws.proofs.Agree.{Agree}

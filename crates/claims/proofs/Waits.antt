@@ -14,7 +14,7 @@ use Rattle.lists.specs.Tests.{ands, both, clash}
 use Rattle.lists.specs.Sets.{all, mem, meets}
 use Rattle.lists.specs.Members.{all-false, false-all}
 use Rattle.model.specs.Objects.{Shape}
-use Rattle.model.specs.Entries.{Write, Read, Commit, Entry, plain, numbered, commit, decision, checkpoint, blank, effect, Log, writesOf, commitIn, commitObjects, ifSome, isNone, decided, headerObjects}
+use Rattle.model.specs.Entries.{Write, Read, Entry, plain, numbered, commit, decision, checkpoint, blank, effect, Log, writesOf, commitIn, commitObjects, ifSome, isNone, decided, headerObjects}
 use Rattle.model.specs.Table.{Cell, lookup, apply}
 use Rattle.model.specs.Play.{Played, going, waits, lacks, commitsOver, alone, waitsAt, saysCommit, make, finish, act, step, andThen, play}
 use Rattle.model.specs.Replica.{plainly, leftBy}

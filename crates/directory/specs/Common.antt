@@ -3,7 +3,7 @@
 use mathlib.Core.Path.{_≡_, refl, ap, ap₂, sym, subst, _∙_}
 use mathlib.Core.Bool.{Bool, true, false, not, _&&_, _||_}
 use mathlib.Core.List.{List, [], _∷_}
-use Prim.Native.Nat.{ℕ, zero, suc, _+_, _/_, _%_, _^_, _<_}
+use Prim.Native.Nat.{ℕ, zero, suc, _/_, _%_, _^_, _<_}
 use native.Mathlib.Nat.{pow-suc, pow-succ', div-one, div-div-eq-div-mul}
 use native.Mathlib.Omega.{arith}
 use lib.Dec.{eqb, ltb}
@@ -12,7 +12,7 @@ use lib.Bits.{bitAnd, and-le-r, and-shr, and-mod}
 use borrow.Author.Tests.{eq-eqb, ne-eqb, eqb-true, eqb-false}
 use Rattle.lists.specs.Tests.{and-l, and-r, neither, or-case, both, clash}
 use Rattle.lists.specs.Sets.{all, mem, meets, within, isEmpty, ascending, ascendingSet, mem-set}
-use Rattle.model.specs.Objects.{Object, isObject, hostedBy, hosted}
+use Rattle.model.specs.Objects.{Object, hostedBy, hosted}
 use Rattle.model.specs.Directory.{shapeOf, listedIn}
 use Rattle.model.specs.Terms.{Listed}
 use Rattle.laws.specs.Ruled.{Ruled, records}

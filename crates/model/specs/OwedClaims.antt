@@ -1,4 +1,4 @@
--- What is claimed of decisions owed, as types (specification 5.3, §17).
+-- What is claimed of decisions owed, as types (specification 5.3, 17.20).
 use Prim.Native.Nat.{ℕ, _<_, _≤_}
 use mathlib.Core.Path.{_≡_}
 use mathlib.Core.Logic.{_↔_}
