@@ -12,6 +12,7 @@ use Rattle.model.specs.Answers.{Refusal, refused}
 use Rattle.model.specs.Reading.{check, owed, entryCall, itemList, streamNext, streamList}
 use Rattle.model.specs.Append.{Replica, Request, append}
 use Rattle.model.specs.Replica.{noReplica, openFresh, openAt, playCall, readCell, audit}
+use Rattle.model.specs.Pricing.{price}
 use Rattle.model.specs.Terms.{Directed}
 use Rattle.model.specs.Claims.{Bytes}
 
@@ -90,6 +91,7 @@ pub record TurnsDown (sh : Shape) (k : ℕ) : Type 0 where
   pub openingAt : (log : Log) (o : ℕ) (table : List ℕ) → openAt sh log o table ≡ record { answer = refused (atPlace k); replica = noReplica; table = table }
   pub playing : (log : Log) (r : Replica) (table : List ℕ) (stop : ℕ) → playCall sh log r table stop ≡ record { answer = refused (atPlace k); replica = r; table = table }
   pub showing : (r : Replica) (table : List ℕ) (o key : ℕ) → readCell sh r table o key ≡ refused (atPlace k)
+  pub pricing : (r : Replica) (table : List ℕ) (o : ℕ) (prices : List ℕ) → price sh r table o prices ≡ refused (atPlace k)
   pub auditing : (log : Log) (scratch : List ℕ) → audit sh log scratch ≡ record { answer = refused (atPlace k); replica = noReplica; table = scratch }
 
 abbrev pub AnswersFault : Type 0

@@ -10,6 +10,7 @@ pub mod Answers
 pub mod Reading
 pub mod Append
 pub mod Replica
+pub mod Pricing
 pub mod Run
 pub mod Histories
 pub mod Terms
@@ -18,7 +19,9 @@ pub mod HeaderClaims
 pub mod ReadClaims
 pub mod DirectoryClaims
 pub mod OwedClaims
+pub mod PriceClaims
 pub mod Report
 pub mod Worked
 pub mod Literal
 pub mod Samples
+pub mod Priced
