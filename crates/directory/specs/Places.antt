@@ -8,19 +8,15 @@ use native.Mathlib.Omega.{arith}
 use lib.Dec.{eqb, ltb}
 use borrow.Author.Tests.{eqb-true, eqb-false, ltb-true, ltb-false, lt-ltb}
 use Rattle.lists.specs.Tests.{and-l, and-r}
-use Rattle.model.specs.Objects.{ObjectKind, aMap, aRegister}
+use Rattle.model.specs.Objects.{aMap, aRegister, isMapKind}
 use Rattle.model.specs.Directory.{kindOf}
 use Rattle.laws.specs.Ruled.{Ruled, records, PlaceOf}
 use Rattle.laws.proofs.ByPlace.{idOf, rises, whole, found-place, no-place}
 
-abbrev pub isMap : ObjectKind → Bool
-isMap aMap = true
-isMap aRegister = false
-
-pub map-kind : (v : ℕ) → not (eqb v 2) ≡ isMap (kindOf v)
+pub map-kind : (v : ℕ) → not (eqb v 2) ≡ isMapKind (kindOf v)
 map-kind v = go (eqb v 2)
   where
-    go : (t : Bool) → not t ≡ isMap (cond t aRegister aMap)
+    go : (t : Bool) → not t ≡ isMapKind (cond t aRegister aMap)
     go true = refl
     go false = refl
 

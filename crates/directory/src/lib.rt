@@ -2,6 +2,7 @@
 pub mod eight;
 pub mod faults;
 pub mod layout;
+pub mod maps;
 pub mod objects;
 pub mod places;
 pub mod sets;

@@ -4,9 +4,10 @@ ghost use mathlib.Core.Bool.{_&&_};
 ghost use Prim.Native.Nat.{_+_, _*_, _≤_, _<_};
 ghost use lib.Dec.{eqb, ltb};
 ghost use lib.ListN.{length};
+ghost use Rattle.model.specs.Objects.{isMapKind};
 ghost use Rattle.model.specs.Directory.{recordSize, idAt, recordAt};
 ghost use Rattle.laws.specs.Ruled.{Ruled, records, PlaceOf};
-ghost use Rattle.directory.specs.Places.{isMap, Searched};
+ghost use Rattle.directory.specs.Places.{Searched};
 use crate::layout::HIGHEST_BEGINS;
 use crate::layout::ID_BEGINS;
 use crate::layout::KIND_BEGINS;
@@ -39,7 +40,7 @@ pub fn highest_at(dir: &[u8], k: usize) -> u32
 // The object at place k is a map, not a register.
 pub fn is_map_at(dir: &[u8], k: usize) -> bool
     requires { ⌜ k < records (now dir) ⌝ }
-    ensures { λ r. ⌜ r ≡ isMap (recordAt (now (dir .entry)) (recordSize * k) .kind) ⌝ }
+    ensures { λ r. ⌜ r ≡ isMapKind (recordAt (now (dir .entry)) (recordSize * k) .kind) ⌝ }
 {
     codec::bytes::be8(dir, RECORD_SIZE * k + KIND_BEGINS) != REGISTER
 }

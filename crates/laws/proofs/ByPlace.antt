@@ -14,6 +14,7 @@ use Rattle.lists.specs.Rows.{values, length-values, getD-values, map-values}
 use Rattle.lists.specs.Sets.{any, mem, ascending, rest-ascends}
 use Rattle.model.specs.Objects.{Object, Shape, ids, isObject, isCell, hostedBy, hosted, bitOf, setOf, everything, badSet}
 use Rattle.model.specs.Directory.{recordSize, mostRecords, idAt, recordAt, shapeOf, listedIn, faultOf}
+use Rattle.model.specs.Objects.{isMapKind, isMap}
 use Rattle.laws.specs.Ruled.{Ruled, records, PlaceOf}
 use Rattle.laws.proofs.Items.{idsOf}
 use Rattle.laws.proofs.Directory.{hosted-listed, every-bit, set-words}
@@ -93,6 +94,14 @@ module _ (d : List ℕ) (n : ℕ) (w : Whole d n) where
         ∙ any-at (λ (y : ℕ). eqb y (idOf d k)) (λ j. placed d j .id) 0 n k (omega arith) (omega arith) (λ j l m q. apart j k (omega arith) h q)
         ∙ eq-eqb (idOf d k) (idOf d k) refl
 
+    pub map-at : isMap (shapeOf d) (idOf d k) ≡ isMapKind (placed d k .kind)
+    unfolding isMap recordAt
+    map-at =
+        ap (any (λ (b : Object). eqb b.id (idOf d k) && isMapKind b.kind)) objects-are
+        ∙ any-at (λ (b : Object). eqb b.id (idOf d k) && isMapKind b.kind) (placed d) 0 n k (omega arith) (omega arith)
+        (λ j l m q. ap (λ (t : Bool). t && isMapKind (placed d j .kind)) (apart j k (omega arith) h q))
+        ∙ ap (λ (t : Bool). t && isMapKind (placed d k .kind)) (eq-eqb (idOf d k) (idOf d k) refl)
+
     pub cell-at : (key : ℕ) → isCell (shapeOf d) (idOf d k) key ≡ leb key (highestOf d k)
     unfolding isCell recordAt
     cell-at key =
@@ -111,6 +120,12 @@ module _ (d : List ℕ) (n : ℕ) (w : Whole d n) where
     no-object =
         ap (λ (bs : List Object). mem o (idsOf bs)) objects-are ∙ ap (mem o) (map-values (λ (b : Object). b .id) (placed d) 0 n)
         ∙ any-none (λ (y : ℕ). eqb y o) (λ j. placed d j .id) 0 n (λ j l m. other j (omega arith))
+
+    pub no-map : isMap (shapeOf d) o ≡ false
+    unfolding isMap recordAt
+    no-map =
+        ap (any (λ (b : Object). eqb b.id o && isMapKind b.kind)) objects-are
+        ∙ any-none (λ (b : Object). eqb b.id o && isMapKind b.kind) (placed d) 0 n (λ j l m. ap (λ (t : Bool). t && isMapKind (placed d j .kind)) (other j (omega arith)))
 
     pub no-cell : (key : ℕ) → isCell (shapeOf d) o key ≡ false
     unfolding isCell recordAt
@@ -277,6 +292,11 @@ module _ {d : List ℕ} (r : Ruled d) where
     object-by = by-place
         (λ e h. ap (isObject (shapeOf d)) (sym (p .there h)) ∙ object-at d (records d) (whole r) k h ∙ sym e)
         (λ e q. p .nowhere q ∙ sym e)
+
+    pub map-by : isMap (shapeOf d) o ≡ (ltb k (records d) && isMapKind (placed d k .kind))
+    map-by = by-place
+        (λ e h. ap (isMap (shapeOf d)) (sym (p .there h)) ∙ map-at d (records d) (whole r) k h ∙ sym (ap (λ (t : Bool). t && isMapKind (placed d k .kind)) e))
+        (λ e q. no-map d (records d) (whole r) o (nowhere-listed q) ∙ sym (ap (λ (t : Bool). t && isMapKind (placed d k .kind)) e))
 
     pub cell-by : (key : ℕ) → isCell (shapeOf d) o key ≡ (ltb k (records d) && leb key (highestOf d k))
     cell-by key = by-place
