@@ -14,7 +14,7 @@ use Rattle.answers.specs.declared.Checked as checks
 use Rattle.answers.specs.declared.Checked.the-variants as checked
 use Rattle.answers.specs.declared.Told.{Told}
 use Rattle.answers.specs.declared.Told.the-variants.{Number, Nothing}
-use Rattle.answers.specs.declared.Refusal.the-variants.{Frame, BadEntry, Request, Closed, Wide, Empty, NoCommit, Decided, Full, BadReplica, FalseRecord, Waiting, NoRoom, NoRoomAt, Behind, Directory, Astray}
+use Rattle.answers.specs.declared.Refusal.the-variants.{Frame, BadEntry, Request, Closed, Wide, Empty, NoCommit, Decided, Full, BadReplica, FalseRecord, Waiting, NoRoom, NoRoomAt, Behind, Directory, Astray, NoPrice}
 
 abbrev pub refusalIn : code.Refusal → Refusal
 refusalIn Frame = record { number = 1; told = none }
@@ -34,6 +34,7 @@ refusalIn (NoRoomAt o) = record { number = 13; told = some (o .0) }
 refusalIn Behind = record { number = 14; told = none }
 refusalIn (Directory k) = record { number = 15; told = some k }
 refusalIn (Astray k) = record { number = 16; told = some k }
+refusalIn (NoPrice k) = record { number = 19; told = some k }
 
 abbrev pub checkedIn : checks.Checked → Answer (Unit {0})
 checkedIn checked.Done = done tt

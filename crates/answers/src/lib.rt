@@ -24,6 +24,7 @@ pub enum Refusal {
     Behind,
     Directory(u64),
     Astray(u64),
+    NoPrice(u32),
 }
 
 // Done, or refused.
@@ -54,6 +55,7 @@ pub fn number_of(r: Refusal) -> u32
         Refusal::Behind => 14,
         Refusal::Directory(_) => 15,
         Refusal::Astray(_) => 16,
+        Refusal::NoPrice(_) => 19,
     }
 }
 
@@ -84,6 +86,7 @@ pub fn told_of(r: Refusal) -> Told
         Refusal::Behind => Told::Nothing,
         Refusal::Directory(k) => Told::Number(k),
         Refusal::Astray(k) => Told::Number(k),
+        Refusal::NoPrice(k) => Told::Number(k as u64),
     }
 }
 
