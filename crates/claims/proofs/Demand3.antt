@@ -36,7 +36,7 @@ use Rattle.claims.proofs.Leaves.{words-replica, words-stop, play-leaves
 -- ---- cell reading
 
 -- an answer that is done passed its tests
-told : {A : Type 0} (f : Option ℕ) (a b : Bool) (x y : A) → answer (firstOf (refuseAt 15 f ∷ refuse 10 a ∷ refuse 3 (not b) ∷ [])) x ≡ done y → (b ≡ true) × (x ≡ y)
+pub told : {A : Type 0} (f : Option ℕ) (a b : Bool) (x y : A) → answer (firstOf (refuseAt 15 f ∷ refuse 10 a ∷ refuse 3 (not b) ∷ [])) x ≡ done y → (b ≡ true) × (x ≡ y)
 told (some k) a b x y e = clash true refl (ap isRefused e)
 told none true b x y e = clash true refl (ap isRefused e)
 told none false false x y e = clash true refl (ap isRefused e)

@@ -27,6 +27,7 @@ use Rattle.model.specs.Reading.{check, badSets, owes, owed, infoIn, entryCall, 
 use Rattle.model.specs.Append.{badRecord, badReplica, entryOf, ownTests, appendGiven, append}
 use Rattle.model.specs.Replica.{openFresh, checkpointIn, openGiven, openAt, badStop, playGiven, playFrom, playCall, readCell, auditPlay, lowestFalse, auditGiven, audit}
 use Rattle.model.specs.Table.{cellsOf, capacity, lookup}
+use Rattle.model.specs.Pricing.{pricesIn, unpriced, total, badOrder, price}
 use Rattle.model.specs.Claims.{Bytes}
 use Rattle.model.specs.DirectoryClaims.{KeysAllowed, Listable, IdsAscend, Lists, ReadsBackDirectory, DirectedExactly, GoodPlace, FirstFault, TellsFault, atPlace, AnswersFault}
 use Rattle.laws.proofs.Refusals.{lowest-some, some-lowest}
@@ -180,7 +181,7 @@ module _ (sh : Shape) (k : ℕ) (e : sh .fault ≡ some k) where
   begins-refused log ts = ap (λ (f : Option ℕ). firstOf (refuseAt 15 f ∷ refuse 1 (badFrame sh.layout log) ∷ refuseAt 2 (lowestBad sh log) ∷ ts)) e
 
 pub answers-fault : AnswersFault
-unfolding check owed entryCall itemList streamNext streamList append openFresh openAt playCall readCell audit
+unfolding check owed entryCall itemList streamNext streamList append openFresh openAt playCall readCell price audit
 answers-fault sh k e =
     let begins = begins-refused sh k e in
     record {
@@ -201,5 +202,7 @@ answers-fault sh k e =
           (refuse 10 (badReplica sh (log .tail) r table) ∷ refuse 3 (badStop (log .tail) r stop) ∷ []));
       showing = λ r table o key. ap (λ (f : Option ℕ). answer (firstOf (refuseAt 15 f ∷ refuse 10 (badRecord sh r table)
           ∷ refuse 3 (not (mem o (hosted sh (r .hosting)) && isCell sh o key)) ∷ [])) (lookup (cellsOf table (r .count)) o key)) e;
+      pricing = λ r table o s. ap (λ (f : Option ℕ). answer (firstOf (refuseAt 15 f ∷ refuse 10 (badRecord sh r table) ∷ refuse 3 (badOrder sh r o s)
+          ∷ refuseAt 19 (unpriced sh o (pricesIn s) (cellsOf table (r .count))) ∷ [])) (total sh o (pricesIn s) (cellsOf table (r .count)))) e;
       auditing = λ log scratch. ap (auditGiven (everything sh) (log .tail) scratch (lowestFalse sh log (capacity scratch)) (auditPlay sh log (capacity scratch) (log .tail))) (begins log []);
     }

@@ -38,3 +38,7 @@ pub mod Headers
 pub mod Owed
 pub mod Directories
 pub mod Handed
+pub mod Sums
+pub mod Lines
+pub mod PriceWords
+pub mod Prices

@@ -1,5 +1,5 @@
--- What is claimed of prices, as types: over what cell reading shows, key by key, and by no walk over a table's rows (specification §18, 17.20).
-use Prim.Native.Nat.{ℕ, zero, suc, _+_, _-_, _*_, _/_, _%_, _^_, _<_, _≤_}
+-- What is claimed of prices, as types: over what cell reading shows, key by key, and by no walk over a table's rows (specification §18, 17.21).
+use Prim.Native.Nat.{ℕ, zero, suc, _+_, _-_, _*_, _^_, _<_, _≤_}
 use mathlib.Core.Path.{_≡_}
 use mathlib.Core.Logic.{_↔_}
 use mathlib.Core.Bool.{true}
@@ -14,7 +14,7 @@ use Rattle.model.specs.Table.{cellsOf, capacity}
 use Rattle.model.specs.Answers.{Refusal, done, refused}
 use Rattle.model.specs.Append.{Replica}
 use Rattle.model.specs.Replica.{readCell}
-use Rattle.model.specs.Pricing.{priceSize, markPrice, mostCents, mostPercent, Price, pricesIn, price}
+use Rattle.model.specs.Pricing.{priceSize, markPrice, mostCents, mostPercent, Price, pricesIn, price, highPart, lowPart}
 use Rattle.model.specs.Histories.{History, ranTo, Passed, Carried, Opening, opened, Play, plays}
 use Rattle.model.specs.Terms.{Directed, Listed, InOrder}
 use Rattle.model.specs.Claims.{Bytes}
@@ -102,12 +102,6 @@ PriceOfRun sh = (h : History) (scratch : List ℕ) → Passed sh h scratch
     → (o : ℕ) (s : List ℕ) (t : ℕ) → price sh (x .replica) (x .table) o s ≡ done t → PricedAsRun sh h x o s t
 
 -- Of a table of bytes the total has two parts of 64 bits, which are the number.
-abbrev pub highPart : ℕ → ℕ
-highPart t = t / 2 ^ 64
-
-abbrev pub lowPart : ℕ → ℕ
-lowPart t = t % 2 ^ 64
-
 pub record TwoParts (t : ℕ) : Type 0 where
   pub high : highPart t < 2 ^ 64
   pub low : lowPart t < 2 ^ 64

@@ -1,4 +1,4 @@
--- Prices worked by hand as one table, and one fact that covers all its rows (specification §18): lines and their rounding, totals, and which
+-- Prices worked by hand as one table, and one fact that covers all its rows (specification 18.4 to 18.8): lines and their rounding, totals, and which
 -- refusal comes first. Beside it a total of more than 64 bits.
 use Prim.Native.Nat.{ℕ, _+_, _-_, _^_}
 use mathlib.Core.Path.{_≡_, refl}
@@ -17,8 +17,7 @@ use Rattle.model.specs.Directory.{recordAt, okRecord, atFault, shapeOf, 
 use Rattle.model.specs.Table.{Cell, cellAt, cellBytes, cellsOf, inOrder}
 use Rattle.model.specs.Answers.{Answer, done, refused}
 use Rattle.model.specs.Append.{Replica}
-use Rattle.model.specs.Pricing.{markPrice, Price, priceAt, okPrice, pricesIn, badPrices, lineOf, priceOf, unpriced, total, price}
-use Rattle.model.specs.PriceClaims.{highPart, lowPart}
+use Rattle.model.specs.Pricing.{markPrice, Price, priceAt, okPrice, pricesIn, badPrices, lineOf, priceOf, unpriced, total, price, highPart, lowPart}
 use Rattle.model.specs.Worked.{code, tells, sameOffset}
 
 -- a price: key, cents, break quantity, percent off; and its bytes
