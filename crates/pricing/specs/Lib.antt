@@ -1,0 +1,5 @@
+pub mod Prices
+pub mod Sums
+pub mod Rows
+pub mod Walks
+pub mod Calls
