@@ -2,3 +2,4 @@ pub mod Entry
 pub mod Items
 pub mod Numbers
 pub mod Replies
+pub mod Totals

@@ -11,6 +11,7 @@ use Rattle.model.specs.Answers.{Answer, done, refused}
 use Rattle.model.specs.Reading.{Header, Info, entryCall, Next, Listed}
 use Rattle.model.specs.Append.{Replica, Appended}
 use Rattle.model.specs.Replica.{Left}
+use Rattle.model.specs.Pricing.{highPart, lowPart}
 use Rattle.codec.specs.Eight.{itemsAt}
 
 -- the three values of `out`
@@ -148,3 +149,7 @@ cellValues (some h) = contentValues (h .version) (h .content)
 
 abbrev pub cellReply : Answer (Option Held) → Reply
 cellReply a = coded cellValues noValues a
+
+-- the total in its two parts of 64 bits
+abbrev pub priceReply : Answer ℕ → Reply
+priceReply a = coded (λ t. values (highPart t) (lowPart t) 0) noValues a

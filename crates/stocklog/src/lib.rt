@@ -2,6 +2,7 @@
 mod appending;
 mod entry;
 mod numbers;
+mod orders;
 mod reading;
 mod replicas;
 mod stream;
