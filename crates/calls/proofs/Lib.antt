@@ -11,3 +11,4 @@ pub mod Order
 pub mod Headers
 pub mod ReadSets
 pub mod Owed
+pub mod Prices

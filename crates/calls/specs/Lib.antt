@@ -4,3 +4,4 @@ pub mod Order
 pub mod Headers
 pub mod ReadSets
 pub mod Owed
+pub mod Prices
