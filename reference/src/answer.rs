@@ -16,13 +16,14 @@ pub const NO_ROOM: u32 = 13;
 pub const BEHIND: u32 = 14;
 pub const DIRECTORY: u32 = 15;
 pub const ASTRAY: u32 = 16;
+pub const NO_PRICE: u32 = 19;
 
 /// What a call answers.
 #[derive(Clone, Copy, Debug, PartialEq, Eq)]
 pub enum Answer<T> {
     Done(T),
-    /// An offset is told by 2, by 11 and by the audit's 13, a place in the directory by 15, one in the read set by 16; nothing by the
-    /// others (13.1).
+    /// An offset is told by 2, by 11 and by the audit's 13, a place in the directory by 15, one in the read set by 16, a key by 19;
+    /// nothing by the others (13.1).
     Refused {
         number: u32,
         told: Option<u64>,

@@ -1,4 +1,4 @@
-//! The sixteen calls as the C interface has them: numbers and lent bytes in, a number and `out` back.
+//! The seventeen calls as the C interface has them: numbers and lent bytes in, a number and `out` back.
 //!
 //! What `out` has on every return is said in 14.3 of docs/SPECIFICATION.md. The entry call alone uses `out[4]` to `out[7]`.
 
@@ -7,6 +7,7 @@ use crate::append;
 use crate::append::Request;
 use crate::audit;
 use crate::log;
+use crate::price;
 use crate::replica::{self, Record};
 use crate::table::Cell;
 
@@ -152,4 +153,11 @@ pub fn read_cell(dir: &[u8], record: Record, table: &[u8], object: u32, key: u32
 pub fn audit(dir: &[u8], log: &[u8], tail: usize, scratch: &mut [u8]) -> Said {
     let (answer, record) = audit::audit(dir, log, tail, scratch);
     said_with(answer, numbers(record))
+}
+
+/// The total's high and low 64 bits.
+pub fn price(dir: &[u8], record: Record, table: &[u8], object: u32, prices: &[u8]) -> Said {
+    said(price::price(dir, &record, table, object, prices), |total| {
+        [(total >> 64) as u64, total as u64, 0]
+    })
 }

@@ -87,6 +87,12 @@
 //!
 //! Refused, a line has `refused N at K` in the place of what is done.
 //!
+//! # Pricing
+//!
+//! A case is 4 bytes length of the directory in bytes, the directory's bytes, the record (8 bytes hosted set, 8 bytes position, 8 bytes
+//! count), 4 bytes length of the table in bytes, the table's bytes, 4 bytes object, 4 bytes length of the list of prices in bytes, the
+//! list's bytes. One line for each: `price HIGH LOW`, the total's two parts, or `price refused N at K`.
+//!
 //! # Playlog
 //!
 //! stdin is the bench log, stdout what `playlog` prints of it (`report`).
@@ -101,6 +107,7 @@ use crate::directory::eight;
 use crate::forms;
 use crate::log::{check, entry, header, items, list, next, owed, MOST_SETS};
 use crate::playing::{self, playing};
+use crate::pricing::{self, pricing};
 use crate::report;
 use crate::sample::{bench, log_of};
 use crate::Answer;
@@ -124,12 +131,13 @@ const DECLARED: [&[u64]; 11] = [
 ];
 
 /// The programs that have stored vectors.
-pub const PROGRAMS: [&str; 6] = [
+pub const PROGRAMS: [&str; 7] = [
     "test_reading",
     "test_appending",
     "test_replicas",
     "test_forms",
     "test_directories",
+    "test_pricing",
     "playlog",
 ];
 
@@ -149,6 +157,7 @@ pub fn vectors(program: &str) -> Option<Vectors> {
         "test_forms" => Some(of_forms()),
         "playlog" => Some(of_playlog()),
         "test_directories" => Some(of_directories()),
+        "test_pricing" => Some(of_pricing()),
         _ => None,
     }
 }
@@ -186,6 +195,15 @@ fn of_directories() -> Vectors {
         cases: cases.len(),
         input: directing::input(&cases),
         output: directing::output(&cases),
+    }
+}
+
+fn of_pricing() -> Vectors {
+    let cases = pricing();
+    Vectors {
+        cases: cases.len(),
+        input: pricing::input(&cases),
+        output: pricing::output(&cases),
     }
 }
 

@@ -10,6 +10,7 @@ use reference::boundary::{self, Said};
 use reference::directory::{bytes_of, eight, fault, Directory, HIGHEST_ID, HIGHEST_KEY};
 use reference::log::{check, entry, header, items, list, next, Reader};
 use reference::objects::{Object, Structure};
+use reference::price::{list_of, Price};
 use reference::random::{faulty_directory, junk, Random};
 use reference::replica::{open_at, open_fresh, play, play_in_place, read_cell, Record};
 use reference::report::playlog;
@@ -329,6 +330,26 @@ fn replica_tries(tries: &mut Tries, logs: &Logs) {
             move |dir, lent| boundary::read_cell(dir, given, &lent.table, object, 7),
         );
     }
+    for (number, given, object, key) in [
+        (0, record(2, 9, 1), 2, 7),
+        (10, record(0, 9, 1), 2, 7),
+        (10, record(258, 9, 1), 2, 7),
+        (10, record(2, 9, 2), 2, 7),
+        (3, record(2, 9, 1), 1, 7),
+        (3, record(32, 9, 1), 6, 7),
+        (19, record(2, 9, 1), 2, 8),
+    ] {
+        let prices = list_of(&[Price {
+            key,
+            cents: 5,
+            from: 0,
+            percent: 0,
+        }]);
+        let table = table_of(&[saved(7)]);
+        tries.on("price", number, &[], &table, move |dir, lent| {
+            boundary::price(dir, given, &lent.table, object, &prices)
+        });
+    }
     let mut requests = bench();
     requests.push(decision(3, 2));
     let untrue = log_of(&requests);
@@ -347,7 +368,7 @@ fn replica_tries(tries: &mut Tries, logs: &Logs) {
 }
 
 /// The order of 13.5, without 15.
-const NUMBERS: [(&str, &[u32]); 16] = [
+const NUMBERS: [(&str, &[u32]); 17] = [
     ("check", &[0, 1, 2]),
     ("owed", &[0, 1, 2, 3]),
     ("entry", &[0, 1, 2, 3]),
@@ -364,6 +385,7 @@ const NUMBERS: [(&str, &[u32]); 16] = [
     ("play", &[0, 1, 2, 3, 10, 12, 13]),
     ("read_cell", &[0, 3, 10]),
     ("audit", &[0, 1, 2, 11, 13]),
+    ("price", &[0, 3, 10, 19]),
 ];
 
 #[test]

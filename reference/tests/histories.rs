@@ -5,6 +5,7 @@ use reference::audit::audit;
 use reference::directory::{eight, Directory};
 use reference::log::{check, entry, header, items, list, next, owed, stretch};
 use reference::objects::set_of;
+use reference::price::price;
 use reference::random::{directory, edge, faulty_directory, flip, junk, History, Mix, Random};
 use reference::replica::{open_at, open_fresh, play, read_cell, Record};
 use reference::run::Run;
@@ -343,6 +344,8 @@ fn call_everything(dir: &[u8], log: &[u8], random: &mut Random) {
         },
     };
     read_cell(dir, &record, &table, small, word);
+    price(dir, &record, &table, small, &junk(random, 45));
+    price(dir, &record, &table, small, &[]);
     let requests = [
         Request::Update {
             number: word,
