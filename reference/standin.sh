@@ -16,7 +16,7 @@ for tool in cargo ld objcopy ar; do
     command -v "$tool" >/dev/null || { echo "$tool is not on the PATH; it is needed to make the stand-in archive" >&2; exit 2; }
 done
 calls="check owed entry header items stream_next stream_list append_update append_commit append_decision append_checkpoint
-open_fresh open_checkpoint play read_cell audit"
+open_fresh open_checkpoint play read_cell audit price"
 cargo build --quiet --release --offline --manifest-path "$sources/standin/Cargo.toml"
 made=${CARGO_TARGET_DIR:-$sources/target}/release/libstandin.a
 wanted=

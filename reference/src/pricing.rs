@@ -305,8 +305,8 @@ fn objects() -> Vec<Case> {
     cases
 }
 
-/// The quantities and cents of lines that sum up to a total below 431 of the largest.
-fn summing(total: u128) -> Vec<(u32, u32)> {
+/// The quantities and cents of lines that sum up to a total.
+pub fn summing(total: u128) -> Vec<(u32, u32)> {
     let largest = u128::from(u32::MAX) * u128::from(MOST_CENTS);
     let mut lines = vec![(u32::MAX, MOST_CENTS); (total / largest) as usize];
     let rest = total % largest;

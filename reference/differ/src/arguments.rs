@@ -3,11 +3,13 @@
 use reference::append::Request;
 use reference::directory::{the_eight, Directory};
 use reference::log::MOST_SETS;
+use reference::price::list_of;
+use reference::prices;
 use reference::random::{self, edge, faulty_directory, flip, junk, put_in_order, Random};
 use reference::replica::Record;
 use reference::sample::{commit, put, read, remove, table_of, update};
 use reference::slot::{Read, Write};
-use reference::table::{Row, CELL};
+use reference::table::{capacity, rows, Row, CELL};
 
 use crate::calls::Call;
 
@@ -218,6 +220,18 @@ fn declared(random: &mut Random, directory: &Directory) -> u64 {
     }
 }
 
+/// Prices for the rows of an object, mostly of all of them; or a broken list.
+pub fn price_list(random: &mut Random, table: &[u8], object: u32) -> Vec<u8> {
+    let of_object = rows(table, capacity(table)).filter(|row| row.object == object);
+    let keys: Vec<u32> = of_object.map(|row| row.key).collect();
+    let list = prices::list(random, &keys, 20);
+    match random.below(20) {
+        0 => junk(random, 70),
+        1..=2 => prices::broken(random, &list),
+        _ => list_of(&list),
+    }
+}
+
 /// A record for a table, mostly a good one.
 pub fn record(random: &mut Random, seen: Seen, table: &[u8]) -> Record {
     let tail = seen.tail;
@@ -381,8 +395,18 @@ pub fn call(random: &mut Random, seen: Seen, place: usize) -> Call {
                 key: key(random, seen.directory, object, seen.keys),
             }
         }
-        _ => Call::Audit {
+        15 => Call::Audit {
             scratch: vec![0xD5; random.below(seen.tail * 40 + 100) as usize],
         },
+        _ => {
+            let table = table(random, seen);
+            let object = object(random, seen.directory);
+            Call::Price {
+                record: record(random, seen, &table),
+                prices: price_list(random, &table, object),
+                table,
+                object,
+            }
+        }
     }
 }

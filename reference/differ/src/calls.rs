@@ -55,11 +55,17 @@ pub enum Call {
     Audit {
         scratch: Vec<u8>,
     },
+    Price {
+        record: Record,
+        table: Vec<u8>,
+        object: u32,
+        prices: Vec<u8>,
+    },
 }
 
 /// The calls' names without `stocklog_`, in the order of the C interface, each with the numbers that document 01
 /// allows it.
-pub const NAMES: [(&str, &[u32]); 16] = [
+pub const NAMES: [(&str, &[u32]); 17] = [
     ("check", &[0, 1, 2]),
     ("owed", &[0, 1, 2, 3]),
     ("entry", &[0, 1, 2, 3]),
@@ -76,6 +82,7 @@ pub const NAMES: [(&str, &[u32]); 16] = [
     ("play", &[0, 1, 2, 3, 10, 12, 13]),
     ("read_cell", &[0, 3, 10]),
     ("audit", &[0, 1, 2, 11, 13]),
+    ("price", &[0, 3, 10, 19]),
 ];
 
 impl Call {
@@ -98,6 +105,7 @@ impl Call {
             Call::Play { .. } => 13,
             Call::ReadCell { .. } => 14,
             Call::Audit { .. } => 15,
+            Call::Price { .. } => 16,
         }
     }
 
@@ -156,6 +164,17 @@ impl Call {
                 hex(table)
             ),
             Call::Audit { scratch } => format!("scratch {}", hex(scratch)),
+            Call::Price {
+                record,
+                table,
+                object,
+                prices,
+            } => format!(
+                "{}, object {object}, table {}, prices {}",
+                words(record),
+                hex(table),
+                hex(prices)
+            ),
         }
     }
 }
@@ -204,6 +223,12 @@ pub fn by_reference(dir: &[u8], log: &mut [u8], tail: u64, call: &mut Call) -> S
             key,
         } => boundary::read_cell(dir, *record, table, *object, *key),
         Call::Audit { scratch } => boundary::audit(dir, log, tail, scratch),
+        Call::Price {
+            record,
+            table,
+            object,
+            prices,
+        } => boundary::price(dir, *record, table, *object, prices),
     }
 }
 
@@ -218,6 +243,7 @@ pub struct Library {
     bytes: Lent<u8>,
     list: Lent<u32>,
     sets: Lent<u64>,
+    prices: Lent<u8>,
     calls: u64,
 }
 
@@ -232,6 +258,7 @@ impl Default for Library {
             bytes: Lent::new(1 << 23, 0xC7),
             list: Lent::new(1 << 18, 0xC7C7_C7C7),
             sets: Lent::new(1 << 10, 0xC7C7_C7C7_C7C7_C7C7),
+            prices: Lent::new(1 << 22, 0xC7),
             calls: 0,
         }
     }
@@ -245,7 +272,8 @@ fn lent_bytes(call: &Call) -> &[u8] {
         Call::Append(Request::Checkpoint { table, .. })
         | Call::OpenCheckpoint { table, .. }
         | Call::Play { table, .. }
-        | Call::ReadCell { table, .. } => table,
+        | Call::ReadCell { table, .. }
+        | Call::Price { table, .. } => table,
         Call::Audit { scratch } => scratch,
         _ => &[],
     }
@@ -267,6 +295,14 @@ fn declared(call: &Call) -> &[u64] {
     }
 }
 
+/// The list of prices.
+fn lent_prices(call: &Call) -> &[u8] {
+    match call {
+        Call::Price { prices, .. } => prices,
+        _ => &[],
+    }
+}
+
 fn made(
     library: &mut Library,
     bytes_of_dir: &[u8],
@@ -280,6 +316,7 @@ fn made(
     let (bytes, bytes_len) = library.bytes.lend(lent_bytes(call), closed);
     let (list, list_len) = library.list.lend(lent_list(call), closed);
     let (sets, sets_len) = library.sets.lend(declared(call), closed);
+    let (prices, prices_len) = library.prices.lend(lent_prices(call), closed);
     let out = library.out.lend();
     // Every pointer is to memory of the length beside it, which nobody else uses during the call.
     unsafe {
@@ -364,6 +401,19 @@ fn made(
             Call::Audit { .. } => {
                 stocklog_audit(dir, dir_len, log, log_len, tail, bytes, bytes_len, out)
             }
+            Call::Price { record, object, .. } => stocklog_price(
+                dir,
+                dir_len,
+                record.hosted,
+                record.position,
+                record.count,
+                bytes,
+                bytes_len,
+                *object,
+                prices,
+                prices_len,
+                out,
+            ),
         }
     }
 }
@@ -403,5 +453,6 @@ impl Library {
             .or_else(|| self.bytes.difference("table, scratch or items", bytes))
             .or_else(|| self.list.difference("list", lent_list(after)))
             .or_else(|| self.sets.difference("declared sets", declared(after)))
+            .or_else(|| self.prices.difference("prices", lent_prices(after)))
     }
 }

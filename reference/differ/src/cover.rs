@@ -7,16 +7,18 @@ use reference::boundary::Said;
 use reference::directory::Directory;
 use reference::header::{BackPointer, Header, FARTHEST};
 use reference::log::{owed, MOST_SETS};
+use reference::objects::Structure;
+use reference::price::price;
 use reference::replica::{pointed_at, Record};
 use reference::rules::objects_written;
 use reference::slot::{reads_in, slot_at, writes_in, Kind, Read, MOST_HEADERS, SLOT};
-use reference::table::{capacity, in_order};
+use reference::table::{capacity, in_order, rows};
 use reference::Answer;
 
 use crate::calls::{Call, NAMES};
 
 /// Cases that must be met beside the numbers.
-pub const CASES: [&str; 38] = [
+pub const CASES: [&str; 45] = [
     "owed: an offset",
     "owed: none",
     "entry: update",
@@ -55,10 +57,17 @@ pub const CASES: [&str; 38] = [
     "owed: 3 for an empty set",
     "owed: none of 16 sets",
     "owed: an offset for the last set alone",
+    "price: nothing",
+    "price: a total",
+    "price: a total over 64 bits",
+    "price: 19 past the first line",
+    "price: 3 for a register",
+    "price: 3 for the list alone",
+    "price: 10 for the order of the rows",
 ];
 
 /// Cases of directories that must be met, beside 15 in every call.
-pub const DIRECTED_CASES: [&str; 9] = [
+pub const DIRECTED_CASES: [&str; 10] = [
     "15 at place 0",
     "15 past place 0",
     "15 at place 64",
@@ -68,6 +77,7 @@ pub const DIRECTED_CASES: [&str; 9] = [
     "read_cell: 10 for a bit past the last record",
     "open_fresh: all of 64 objects",
     "owed: 3 for a bit past the last record",
+    "price: 10 for a bit past the last record",
 ];
 
 /// Met on far logs alone.
@@ -76,7 +86,7 @@ pub const FAR_CASE: &str = "header: format 1";
 #[derive(Default)]
 pub struct Cover {
     /// By call and number; the last place is for any that no call has.
-    numbers: [[u64; 18]; 16],
+    numbers: [[u64; 21]; NAMES.len()],
     cases: BTreeMap<&'static str, u64>,
     pub calls: u64,
 }
@@ -85,7 +95,7 @@ impl Cover {
     /// Takes in a call, as it was before, and its answer.
     pub fn note(&mut self, dir: &[u8], log: &[u8], tail: u64, call: &Call, said: &Said) {
         self.calls += 1;
-        let number = (said.number as usize).min(17);
+        let number = (said.number as usize).min(20);
         self.numbers[call.place()][number] += 1;
         let of_commit = match call {
             Call::Append(Request::Commit { number, reads }) => {
@@ -95,7 +105,7 @@ impl Cover {
         };
         let directed = directed_case(dir, call, said).map(|place| DIRECTED_CASES[place]);
         let of_call = case_of(dir, log, call, said);
-        let of_sets = case_of_sets(dir, log, tail, call, said);
+        let of_sets = case_of_sets(dir, log, tail, call, said).or_else(|| priced(dir, call, said));
         let cases = of_call.into_iter().chain(of_commit).chain(of_sets);
         for case in cases.chain(directed) {
             *self.cases.entry(case).or_default() += 1;
@@ -170,6 +180,7 @@ fn directed_case(dir: &[u8], call: &Call, said: &Said) -> Option<usize> {
         Call::OpenFresh { hosted } => past(*hosted).map(|()| 4),
         Call::Play { record, .. } => past(record.hosted).map(|()| 5),
         Call::ReadCell { record, .. } => past(record.hosted).map(|()| 6),
+        Call::Price { record, .. } => past(record.hosted).map(|()| 9),
         _ => None,
     }
 }
@@ -251,6 +262,42 @@ fn case_of_sets(
     let (_, others) = sets.split_last()?;
     let alone = || owed(dir, log, tail as usize, others) == Answer::Done(None);
     (owes && !others.is_empty() && alone()).then_some(CASES[37])
+}
+
+/// What a price met.
+fn priced(dir: &[u8], call: &Call, said: &Said) -> Option<&'static str> {
+    let Call::Price {
+        record,
+        table,
+        object,
+        prices,
+    } = call
+    else {
+        return None;
+    };
+    let lines = || {
+        let of_object = rows(table, record.count as usize).filter(|row| row.object == *object);
+        of_object.filter(|row| row.present == 1 && row.value > 0)
+    };
+    let is_map = || {
+        let directory = Directory::of(dir).ok()?;
+        let found = directory.object(*object)?;
+        Some(found.structure == Structure::Map)
+    };
+    let list_alone = || price(dir, record, table, *object, &[]).number() != 3;
+    match (said.number, said.out) {
+        (0, [0, 0, ..]) => Some(CASES[38]),
+        (0, [0, ..]) => Some(CASES[39]),
+        (0, _) => Some(CASES[40]),
+        (19, out) => {
+            let first = lines().next().map(|row| u64::from(row.key));
+            (first < Some(out[3])).then_some(CASES[41])
+        }
+        (3, _) if is_map() == Some(false) => Some(CASES[42]),
+        (3, _) if !prices.is_empty() && list_alone() => Some(CASES[43]),
+        (10, _) if disorder_alone(dir, record, table) => Some(CASES[44]),
+        _ => None,
+    }
 }
 
 fn case_of(dir: &[u8], log: &[u8], call: &Call, said: &Said) -> Option<&'static str> {

@@ -325,6 +325,12 @@ impl Case<'_> {
                 object,
                 key: 0,
             },
+            Call::Price {
+                record,
+                table: table.clone(),
+                object,
+                prices: Vec::new(),
+            },
             Call::Append(Request::Checkpoint {
                 record,
                 table,
@@ -359,10 +365,25 @@ impl Case<'_> {
                 _ => Vec::new(),
             };
         }
+        self.price(replica.record, &table)?;
         self.replicas.push(Replica {
             record: replica.record,
             table,
         });
+        Ok(())
+    }
+
+    /// What the cells of one of its objects cost.
+    fn price(&mut self, record: Record, table: &[u8]) -> Result<(), Difference> {
+        let object = arguments::object(&mut self.random, &self.history.writer.directory);
+        let counted = &table[..CELL * record.count as usize];
+        let mut call = Call::Price {
+            record,
+            table: table.to_vec(),
+            object,
+            prices: arguments::price_list(&mut self.random, counted, object),
+        };
+        self.pair.call(&mut self.log, 0, &mut call)?;
         Ok(())
     }
 }

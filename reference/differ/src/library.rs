@@ -1,7 +1,8 @@
-//! The library under test: its sixteen functions, as `stocklog.h` has them.
+//! The library under test: its seventeen functions, as `stocklog.h` has them.
 //!
 //! With the feature `before` they are those of an archive from before directories, which know the eight alone: the directory is not
-//! handed on. The benchmark measures such an archive beside the present one, on logs of the eight.
+//! handed on. With `unpriced` it is one from before prices, which has no such function. The benchmark measures such archives beside the
+//! present one, on logs of the eight.
 
 /// A hosted set, as the library takes one.
 #[cfg(not(feature = "before"))]
@@ -59,4 +60,41 @@ calls! {
         table: *mut u8, table_len: usize, stop: u64);
     stocklog_read_cell(hosted: crate::library::Hosted, position: u64, count: u64, table: *const u8, table_len: usize, object: u32, key: u32);
     stocklog_audit(log: *const u8, log_len: usize, tail: u64, scratch: *mut u8, scratch_len: usize);
+}
+
+#[cfg(not(feature = "unpriced"))]
+extern "C" {
+    pub fn stocklog_price(
+        dir: *const u8,
+        dir_len: usize,
+        hosted: u64,
+        position: u64,
+        count: u64,
+        table: *const u8,
+        table_len: usize,
+        object: u32,
+        prices: *const u8,
+        prices_len: usize,
+        out: *mut u64,
+    ) -> u32;
+}
+
+/// # Safety
+/// Nothing is asked: no memory is touched. The answer is none that a call has.
+#[cfg(feature = "unpriced")]
+#[allow(clippy::too_many_arguments)]
+pub unsafe fn stocklog_price(
+    _: *const u8,
+    _: usize,
+    _: u64,
+    _: u64,
+    _: u64,
+    _: *const u8,
+    _: usize,
+    _: u32,
+    _: *const u8,
+    _: usize,
+    _: *mut u64,
+) -> u32 {
+    u32::MAX
 }

@@ -100,4 +100,7 @@ calls! {
         boundary::read_cell(dir, record(hosted, position, count), lent(table, table_len), object, key);
     stocklog_audit(log: *const u8, log_len: usize, tail: u64, scratch: *mut u8, scratch_len: usize) out 4 =>
         boundary::audit(dir, lent(log, log_len), tail as usize, lent_mut(scratch, scratch_len));
+    stocklog_price(hosted: u64, position: u64, count: u64, table: *const u8, table_len: usize, object: u32,
+            prices: *const u8, prices_len: usize) out 4 =>
+        boundary::price(dir, record(hosted, position, count), lent(table, table_len), object, lent(prices, prices_len));
 }

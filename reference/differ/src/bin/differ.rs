@@ -16,6 +16,7 @@ use differ::directories::faults;
 use differ::far::{directed, far, large_tables, most_slots};
 use differ::headers::worked;
 use differ::histories::{history, long_history};
+use differ::orders::order;
 use differ::pair::{Difference, Pair};
 
 struct Options {
@@ -94,6 +95,7 @@ fn all(pair: &mut Pair, options: &Options) -> Result<(), Difference> {
     let once = u64::from(options.damaged > 0);
     part(pair, "set of damaged headers", options.seed, once, worked)?;
     part(pair, "set of directories", options.seed, once, faults)?;
+    part(pair, "orders", options.seed, options.damaged / 8, order)?;
     part(
         pair,
         "long histories",
