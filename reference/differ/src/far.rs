@@ -5,11 +5,13 @@ use reference::append::{Request, Writer};
 use reference::directory::{bytes_of, the_eight, Directory, HIGHEST_ID, HIGHEST_KEY};
 use reference::log::scan;
 use reference::objects::{set_of, Object, Structure};
+use reference::price::list_of;
+use reference::prices;
 use reference::random::{put_in_order, History, Mix, Random};
 use reference::replica::{version_at, Record};
 use reference::sample::{commit, put, read, table_of, update};
 use reference::slot::{slot_at, Kind, Read, MOST_SLOTS, SLOT};
-use reference::table::{put_row, row, Row, CELL};
+use reference::table::{put_row, row, rows, Row, CELL};
 
 use crate::arguments::{self, Seen};
 use crate::calls::Call;
@@ -327,6 +329,7 @@ pub fn large_tables(pair: &mut Pair, seed: u64) -> Result<(), Difference> {
     Ok(())
 }
 
+/// A cell, the prices of all cells with and without one that is missing, and a checkpoint.
 fn read_and_save(
     pair: &mut Pair,
     log: &mut [u8],
@@ -342,6 +345,18 @@ fn read_and_save(
         key: 0,
     };
     pair.call(log, tail, &mut call)?;
+    let of_object = rows(&table, record.count as usize).filter(|row| row.object == object);
+    let keys: Vec<u32> = of_object.map(|row| row.key).collect();
+    for missing in [0, 100] {
+        let list = prices::list(&mut Random::new(tail), &keys, missing);
+        let mut call = Call::Price {
+            record,
+            table: table.clone(),
+            object,
+            prices: list_of(&list),
+        };
+        pair.call(log, tail, &mut call)?;
+    }
     let mut copy = log.to_vec();
     let mut call = Call::Append(Request::Checkpoint {
         record,

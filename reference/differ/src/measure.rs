@@ -11,11 +11,12 @@ use reference::table::{rows, CELL};
 
 use crate::library::{
     stocklog_append_commit, stocklog_append_update, stocklog_audit, stocklog_check,
-    stocklog_open_fresh, stocklog_owed, stocklog_play, Hosted,
+    stocklog_open_fresh, stocklog_owed, stocklog_play, stocklog_price, Hosted,
 };
+use crate::orders::MEASURED;
 use crate::workload::Made;
 
-/// The append is of an update.
+/// On a log; the append is of an update. The price is measured too, which takes none.
 pub const CALLS: [&str; 6] = ["check", "owed", "append", "commit", "play", "audit"];
 /// Those of the plot and of the logs made to be slow.
 pub const PLOTTED: [&str; 4] = ["check", "append", "play", "audit"];
@@ -77,8 +78,9 @@ struct Lent {
     /// What is declared: as many sets as may be, each of all objects, so that every commit record without a decision is asked for each
     /// of them, and none owes.
     sets: [u64; MOST_SETS],
-    /// The replica that is played.
+    /// The replica that is played, or priced.
     record: Record,
+    prices: Vec<u8>,
 }
 
 /// Nanoseconds of one call, the least of those made in so many nanoseconds or of three, and its answer in words.
@@ -95,6 +97,7 @@ pub fn measured(call: &str, made: Made, side: Side, time: f64) -> (f64, String) 
         reads: made.reads.unwrap_or_default(),
         sets: [everything.hosted; MOST_SETS],
         record,
+        prices: made.prices,
     };
     if call == "commit" && lent.reads.is_empty() {
         lent.reads = honest(&mut lent);
@@ -196,6 +199,7 @@ pub fn has(call: &str) -> bool {
             );
             number == 3
         },
+        "price" => cfg!(not(feature = "unpriced")),
         _ => CALLS.contains(&call),
     }
 }
@@ -235,6 +239,7 @@ fn by_reference(call: &str, lent: &mut Lent) -> Said {
             &mut lent.table,
             tail as u64,
         ),
+        "price" => boundary::price(&lent.dir, lent.record, &lent.table, MEASURED, &lent.prices),
         _ => boundary::audit(&lent.dir, &lent.log, tail, &mut lent.table),
     }
 }
@@ -294,6 +299,19 @@ fn by_library(call: &str, lent: &mut Lent) -> Said {
                 table,
                 table_len,
                 tail,
+                to,
+            ),
+            "price" => stocklog_price(
+                dir,
+                dir_len,
+                lent.record.hosted,
+                lent.record.position,
+                lent.record.count,
+                table,
+                table_len,
+                MEASURED,
+                lent.prices.as_ptr(),
+                lent.prices.len(),
                 to,
             ),
             _ => stocklog_audit(dir, dir_len, log, log_len, tail, table, table_len, to),

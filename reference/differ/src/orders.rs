@@ -1,7 +1,7 @@
 //! Orders to be priced: maps of many rows and large quantities, with totals about 2 to the power of 64, among rows of other objects,
-//! removed cells and rows of no cell.
+//! removed cells and rows of no cell. And an order of which the price is measured.
 
-use reference::directory::{the_eight, Directory};
+use reference::directory::{bytes_of, the_eight, Directory, HIGHEST_KEY};
 use reference::objects::{Object, Structure};
 use reference::price::{list_of, Price, MOST_CENTS};
 use reference::prices;
@@ -13,6 +13,7 @@ use reference::table::Row;
 
 use crate::calls::Call;
 use crate::pair::{Difference, Pair};
+use crate::workload::Made;
 
 /// Maps of fewer keys are not ordered from.
 const KEYS: u32 = 499;
@@ -174,4 +175,35 @@ fn without_some(random: &mut Random, listed: &[Price]) -> Vec<Price> {
         }
     }
     prices
+}
+
+/// The object of which a price is measured.
+pub const MEASURED: u32 = 5;
+
+/// A replica of so many cells of one map, all of them lines, and a price for each.
+pub fn measured(cells: usize) -> Made {
+    let map = Object {
+        id: MEASURED,
+        structure: Structure::Map,
+        highest_key: HIGHEST_KEY,
+        marked: false,
+    };
+    let mut random = Random::new(cells as u64);
+    let keys = || (0..cells as u32).map(|place| 3 * place);
+    let rows: Vec<Row> = keys()
+        .map(|key| Row::of(MEASURED, key, Some(1 + random.below(20) as u32), 1))
+        .collect();
+    let list: Vec<Price> = keys().map(|key| prices::price(&mut random, key)).collect();
+    let record = Record {
+        hosted: 1,
+        position: 0,
+        count: cells as u64,
+    };
+    Made {
+        dir: bytes_of(&[map]),
+        cells,
+        replica: Some((record, table_of(&rows))),
+        prices: list_of(&list),
+        ..Made::of_eight(Vec::new(), 0)
+    }
 }

@@ -22,11 +22,16 @@ fn head(words: &[String]) -> String {
 
 /// The points of each row, and how many times as long the first column takes as each other.
 pub fn table(rows: &[Row], columns: &[Column], limit: u64) -> String {
-    let mut words = vec!["call".to_string(), "entries".to_string()];
+    table_by(["entries", "entry"], rows, columns, limit)
+}
+
+/// The same, of what the times are divided by: several, and one of them.
+fn table_by([several, one]: [&str; 2], rows: &[Row], columns: &[Column], limit: u64) -> String {
+    let mut words = vec!["call".to_string(), several.to_string()];
     words.extend(
         columns
             .iter()
-            .map(|column| format!("{}, ns for each entry", column.words)),
+            .map(|column| format!("{}, ns for each {one}", column.words)),
     );
     words.extend(
         columns[1..]
@@ -58,6 +63,16 @@ pub fn beside_check(call: &str, rows: &[Row], columns: &[Column]) -> String {
         text += &format!("| {} |\n", words.join(" | "));
     }
     text
+}
+
+/// The table of prices, which take no log.
+pub fn prices(rows: &[Row], columns: &[Column], limit: u64) -> String {
+    let table = table_by(["rows", "row"], rows, columns, limit);
+    format!(
+        "\
+The price of a replica with so many cells of one map, each of them a line, by a list with a price for each. The call tests the order of\n\
+all rows first; then it goes once over the rows of the object and the list.\n\n{table}"
+    )
 }
 
 /// The tables of the logs over sparse ids, each with its name.

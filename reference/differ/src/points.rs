@@ -9,7 +9,7 @@ use std::{env, thread};
 use crate::measure::Side;
 
 /// The calls that the archive of a landing before may not have as they are now.
-const SINCE: [&str; 1] = ["owed"];
+const SINCE: [&str; 2] = ["owed", "price"];
 
 /// What is asked of a run.
 #[derive(Clone)]

@@ -104,6 +104,7 @@ fn made(log: Depots) -> Made {
         log: log.writer.log,
         reads: None,
         replica: None,
+        prices: Vec::new(),
     }
 }
 

@@ -69,6 +69,8 @@ pub struct Made {
     pub reads: Option<Vec<u8>>,
     /// The record and the table with which the play is measured; a fresh one without them.
     pub replica: Option<(Record, Vec<u8>)>,
+    /// The list with which the price is measured.
+    pub prices: Vec<u8>,
 }
 
 impl Made {
@@ -85,6 +87,7 @@ impl Made {
             number,
             reads: None,
             replica: None,
+            prices: Vec::new(),
         }
     }
 }

@@ -9,7 +9,7 @@
 //! numbers are multiples of the stride, 1 unless it is given. Both sides must give the same answer, `out` and bytes.
 //! `--before` names this program as it was linked with the archive of another landing: that archive is measured in the
 //! same run, and must give the same answer and `out`; the layout of its bytes may be another one. A call that it does not have as it is
-//! now is left out there. `--report` writes the table with some words of explanation, `--plot` a plot as SVG.
+//! now is left out there. The price, which takes no log, is measured on tables of as many rows. `--report` writes the table with some words of explanation, `--plot` a plot as SVG.
 //!
 //! After the logs of the eight come those over a directory of 64 sparse ids, of 16,384 entries and more where there are such sizes;
 //! the archive of the other landing is not measured on them.
@@ -24,6 +24,7 @@ use std::process::ExitCode;
 use std::{env, fs};
 
 use differ::measure::{has, measured, takes_directory, Side, CALLS, PLOTTED};
+use differ::orders;
 use differ::page::{self, Slow};
 use differ::plot::plot;
 use differ::points::{rows, Asked, Column};
@@ -123,6 +124,7 @@ fn point(wanted: &Wanted, options: &Options) -> Result<(), String> {
             let made = log(name, wanted.size).ok_or_else(|| format!("no log is called {name}"))?;
             (made, 1e8)
         }
+        None if wanted.call == "price" => (orders::measured(wanted.size), 5e8),
         None => {
             let made = workload(wanted.size, options.asked.seed, options.asked.stride);
             (made, 5e8)
@@ -179,8 +181,10 @@ fn depots(options: &Options) -> Result<(), String> {
     }
     let table = page::table(&all, &columns, options.asked.limit);
     let beside = ["owed", "append", "commit"].map(|call| page::beside_check(call, &all, &columns));
+    let priced = rows("price", &columns, &options.asked)?;
+    let prices = page::prices(&priced, &columns, options.asked.limit);
     let sparse = sparse(options)?;
-    let tables = format!("{table}\n{}\n{sparse}", beside.join("\n"));
+    let tables = format!("{table}\n{}\n{prices}\n{sparse}", beside.join("\n"));
     print!("{tables}");
     if let Some(file) = &options.plot {
         store(file, &plot(&page::lines(&all, &columns)))?;
