@@ -1,5 +1,5 @@
 /*
- * stocklog.h - the shared stock log: append, read, play and audit over lent memory.
+ * stocklog.h - the shared stock log: append, read, play, audit and price over lent memory.
  *
  * Every function here is proved against the definitions in crates/model/specs: for any bytes and numbers it ends, touches
  * nothing but what is lent to it, and either does its work or returns one of the refusals below. docs/TRUST.md says what that rests on.
@@ -11,8 +11,8 @@
  * - The first argument of every call is a directory of objects (below), as a slice of bytes. It is judged before all else.
  * - The last argument, out, is written whole on every return, whatever was in it: values in out[0] to out[2], and in out[3] what a
  *   refusal tells: an offset with STOCKLOG_BAD_ENTRY, STOCKLOG_FALSE_RECORD and the audit's STOCKLOG_NO_ROOM, a place of the directory
- *   with STOCKLOG_DIRECTORY, the place of a read with STOCKLOG_ASTRAY. A place of out in which nothing is said is 0. So out[3] is 0 for
- *   every other answer; it is also 0 where the number told is 0: the result tells the two apart.
+ *   with STOCKLOG_DIRECTORY, the place of a read with STOCKLOG_ASTRAY, a key with STOCKLOG_NO_PRICE. A place of out in which nothing is
+ *   said is 0. So out[3] is 0 for every other answer; it is also 0 where the number told is 0: the result tells the two apart.
  *   Unless a call's text says otherwise, out[0] to out[2] are 0 where the call is refused.
  * - No call keeps a pointer, allocates, has state of its own, or waits. Calls from several threads are safe as long as none of
  *   them writes what another uses.
@@ -31,7 +31,7 @@
  *
  * THE LOG is a slice of 256-byte slots, at most 131,072 of them; tail counts the used ones. The caller keeps the tail: 0 for a
  * new log (whose bytes may be anything), then what each append answers. Slots at and above the tail are neither read nor judged.
- * Integers in slots, items, tables and directories are unsigned and stored most significant byte first.
+ * Integers in slots, items, tables, directories and prices are unsigned and stored most significant byte first.
  *
  * A DIRECTORY says which objects there are: 1 to 64 records of 16 bytes, dir_len / 16 of them. An object's place is that of its record,
  * from 0. A record:
@@ -71,12 +71,25 @@
  * value 4 (0 if removed), present 4 (1 or 0), version 8. Its capacity is table_len / 24. A hosted set has at least one bit, and none
  * past the directory's last record. The first rows, as many as the count says, ascend strictly by object, then key, both compared as
  * the stored unsigned numbers. Bytes past the counted rows are not touched.
- * A call that takes a record with a table (stocklog_play, stocklog_append_checkpoint, stocklog_read_cell) answers 10 where its counted
- * rows do not ascend so, whatever objects and keys they name, a cell twice included. Rows of objects that are not hosted, or not in
+ * A call that takes a record with a table (stocklog_play, stocklog_append_checkpoint, stocklog_read_cell, stocklog_price) answers 10 where
+ * its counted rows do not ascend so, whatever objects and keys they name, a cell twice included. Rows of objects that are not hosted, or not in
  * the directory, are otherwise left alone: where a new row comes before them they move with all their bytes. stocklog_open_checkpoint and
  * stocklog_audit look at no row of the table lent to them.
  * A table kept from an earlier version of this library has its rows in order of first writing: it gets 10 unless it ascends by chance.
  * Open the replica anew and play it.
+ *
+ * PRICES, for stocklog_price, are records of 20 bytes, prices_len / 20 of them, whose keys ascend strictly; there may be none.
+ *   bytes 0-1    0x50 0x52 (PR)
+ *   bytes 2-3    0
+ *   bytes 4-7    key, any number
+ *   bytes 8-11   cents, at most 9,999,999
+ *   bytes 12-15  break quantity
+ *   bytes 16-19  percent off, at most 100
+ * A line is what a quantity of one key costs, in cents. Below the break quantity it is quantity * cents. From the break quantity on, the
+ * whole line is lowered by the percent and rounded to the nearest cent, a half upward: (quantity * cents * (100 - percent) + 50) / 100,
+ * rounded down. It is the lowered line that is rounded, once; not the price of one piece, and not what is taken off:
+ *   3 pieces at 333 cents, 10 percent off from 3 on:  999 * 90 / 100 = 899.1, so 899 (2 pieces are 666)
+ *   5 pieces at 1 cent, 50 percent off from 0 on:     5 * 50 / 100 = 2.5, so 3
  */
 #ifndef STOCKLOG_H
 #define STOCKLOG_H
@@ -89,7 +102,7 @@ extern "C" {
 #endif
 
 /*
- * The result of every call. "Left behind" is said at each call; with 1 to 10 and 14 to 16 nothing is changed, whatever the call.
+ * The result of every call. "Left behind" is said at each call; with 1 to 10, 14 to 16 and 19 nothing is changed, whatever the call.
  * Each call states its refusals in the order in which it tests for them; 15 is ahead of all others in every call.
  */
 enum {
@@ -111,9 +124,10 @@ enum {
                                    12 cells for a checkpoint; from the audit, out[3]: the entry's offset */
     STOCKLOG_BEHIND = 14,       /* a checkpoint from a replica that is not at the tail */
     STOCKLOG_DIRECTORY = 15,    /* the directory breaks its rules; out[3]: the first place at fault, from 0 */
-    STOCKLOG_ASTRAY = 16        /* a commit has a read with a version v over 0, and the entry at v - 1 is neither a plain
+    STOCKLOG_ASTRAY = 16,       /* a commit has a read with a version v over 0, and the entry at v - 1 is neither a plain
                                    update that writes the cell nor a commit record whose updates do; out[3]: the place,
                                    from 0, of the first such read */
+    STOCKLOG_NO_PRICE = 19      /* a cell that is to be priced has no price in the list; out[3]: the lowest such key */
 };
 
 /* Kinds of entry, as stocklog_entry says them. */
@@ -132,6 +146,7 @@ enum {
     STOCKLOG_ITEM_SIZE = 16,
     STOCKLOG_CELL_SIZE = 24,
     STOCKLOG_RECORD_SIZE = 16,
+    STOCKLOG_PRICE_SIZE = 20,
     STOCKLOG_MOST_SLOTS = 131072,
     STOCKLOG_MOST_ITEMS = 12,
     STOCKLOG_MOST_OBJECTS = 64,
@@ -158,7 +173,7 @@ static const uint8_t stocklog_eight[128] = {
  * lengths, so its use does not depend on the log. For one call these are enough:
  *   2,990,000  stocklog_audit
  *   2,860,000  stocklog_play
- *       1,000  stocklog_open_fresh, stocklog_read_cell
+ *       1,000  stocklog_open_fresh, stocklog_read_cell, stocklog_price
  *   2,330,000  each other
  * tools/stack adds up what is used from the archive's machine code (frames along the calls, and 16 KiB for memset and memcpy),
  * and fails where it is more than is stated here, or where a figure here is over 5 % and over 1,000 bytes more.
@@ -310,6 +325,20 @@ uint32_t stocklog_play(
 uint32_t stocklog_read_cell(
     const uint8_t *dir, size_t dir_len, uint64_t hosted, uint64_t position, uint64_t count,
     const uint8_t *table, size_t table_len, uint32_t object, uint32_t key, uint64_t out[4]);
+
+/*
+ * What the cells of one map of a replica cost together, by a list of prices: the sum of the lines of its cells that are present with a
+ * quantity over 0, the value being the quantity. Cells that were removed or hold 0 need no price, and rows whose key is over the map's
+ * highest are no cells. Prices of other keys do not matter. Nothing is changed.
+ * Done: out[0] the high 64 bits of the total in cents, out[1] the low 64 bits: out[0] * 2^64 + out[1]. Refusals: 15, 10 (there is no tail,
+ * so the position is not tested), 3 (object not in the directory, not hosted, or a register; prices_len not a multiple of 20; a price
+ * with another mark or other zero bytes, over 9,999,999 cents or over 100 percent, or a key that is not above the one before; whatever
+ * the cells are), 19 (out[3] the lowest key to be priced that has no price).
+ */
+uint32_t stocklog_price(
+    const uint8_t *dir, size_t dir_len, uint64_t hosted, uint64_t position, uint64_t count,
+    const uint8_t *table, size_t table_len, uint32_t object, const uint8_t *prices, size_t prices_len,
+    uint64_t out[4]);
 
 /*
  * The audit: plays every object from offset 0 over a scratch table, and compares each decision and each checkpoint with the play.
