@@ -222,7 +222,7 @@ fn history(seed: u64, random: &mut Random) -> History {
     let mut history = History::over(directory, seed, 60, mix);
     for _ in 0..40 {
         let request = history.request();
-        if seed % 2 == 0 || !matches!(request, Request::Decision { .. }) {
+        if seed.is_multiple_of(2) || !matches!(request, Request::Decision { .. }) {
             history.append(request);
         }
     }
