@@ -53,9 +53,7 @@ fn stored_files_are_as_made() {
 #[test]
 fn every_program_has_vectors() {
     let due: BTreeSet<String> = PROGRAMS.into_iter().map(String::from).collect();
-    let without: Vec<String> = having("src/main.rt").difference(&due).cloned().collect();
-    assert!(without.is_empty(), "programs without vectors: {without:?}");
-    for name in ["stdin", "stdout"] {
+    for name in ["src/main.rt", "stdin", "stdout"] {
         assert_eq!(having(name), due, "crates with {name}");
     }
 }
