@@ -57,7 +57,7 @@ abbrev audits : Lent → Answer (Unit {0})
 audits l = let log = inLog depots l in audit depots log table .answer
 
 audits-so : audits (wholeLog depots met) ≡ done tt
-unfolding beAt bytesOf splice values joined first firstFrom eqList writesOf stamps astray closed decided headerObjects repeats objectsIn earlier writeBytes writeAt readBytes readAt savedBytes savedAt itemBytes itemCount headerOf slotOf decode slot logIn okEntry lowest lowestBad cellAt cellBytes cellsOf tableWith apply savedOf play commitsOver entryOf firstPlace ownTests append openFresh openAt playCall readCell audit accept runAt grown feed isObject isCell hosted okWrite okWrites okRead okReads okSaved narrow goodAt lookup inOrder store step badFrame
+unfolding beAt bytesOf splice values joined first firstFrom eqList writesOf stamps astray closed decided headerObjects repeats objectsIn earlier writeBytes writeAt readBytes readAt savedBytes savedAt itemBytes itemCount headerOf slotOf lastBytes decode slot logIn okEntry lowest lowestBad cellAt cellBytes cellsOf tableWith apply savedOf play commitsOver whole named entryOf firstPlace ownTests append openFresh openAt playCall readCell audit accept runAt grown feed isObject isCell hosted okWrite okWrites okRead okReads okNames okSaved narrow goodAt lookup inOrder store step badFrame
 audits-so = refl
 
 -- the audit passes
@@ -66,7 +66,7 @@ passes = audits-so
 
 -- the third append is refused
 pub is-refused : isRefused (appendTo depots (stood depots met 2) unasked .newTail) ≡ true
-unfolding beAt bytesOf splice values joined first firstFrom eqList writesOf stamps astray closed decided headerObjects repeats objectsIn earlier writeBytes writeAt readBytes readAt savedBytes savedAt itemBytes itemCount headerOf slotOf decode slot logIn okEntry lowest lowestBad cellAt cellBytes cellsOf tableWith apply savedOf play commitsOver entryOf firstPlace ownTests append openFresh openAt playCall readCell audit accept runAt grown feed isObject isCell hosted okWrite okWrites okRead okReads okSaved narrow goodAt lookup inOrder store step badFrame
+unfolding beAt bytesOf splice values joined first firstFrom eqList writesOf stamps astray closed decided headerObjects repeats objectsIn earlier writeBytes writeAt readBytes readAt savedBytes savedAt itemBytes itemCount headerOf slotOf lastBytes decode slot logIn okEntry lowest lowestBad cellAt cellBytes cellsOf tableWith apply savedOf play commitsOver whole named entryOf firstPlace ownTests append openFresh openAt playCall readCell audit accept runAt grown feed isObject isCell hosted okWrite okWrites okRead okReads okNames okSaved narrow goodAt lookup inOrder store step badFrame
 is-refused = refl
 
 -- ---- the run
@@ -80,7 +80,7 @@ fed = taken (update 9 (put 5 1 6)) ∷ taken (update 10 (put 5 1 7)) ∷ record 
 
 -- of the seven appends only the third is refused
 pub feeds : feed depots (empty (met .bytes)) (met .requests) ≡ fed
-unfolding beAt bytesOf splice values joined first firstFrom eqList writesOf stamps astray closed decided headerObjects repeats objectsIn earlier writeBytes writeAt readBytes readAt savedBytes savedAt itemBytes itemCount headerOf slotOf decode slot logIn okEntry lowest lowestBad cellAt cellBytes cellsOf tableWith apply savedOf play commitsOver entryOf firstPlace ownTests append openFresh openAt playCall readCell audit accept runAt grown feed isObject isCell hosted okWrite okWrites okRead okReads okSaved narrow goodAt lookup inOrder store step badFrame
+unfolding beAt bytesOf splice values joined first firstFrom eqList writesOf stamps astray closed decided headerObjects repeats objectsIn earlier writeBytes writeAt readBytes readAt savedBytes savedAt itemBytes itemCount headerOf slotOf lastBytes decode slot logIn okEntry lowest lowestBad cellAt cellBytes cellsOf tableWith apply savedOf play commitsOver whole named entryOf firstPlace ownTests append openFresh openAt playCall readCell audit accept runAt grown feed isObject isCell hosted okWrite okWrites okRead okReads okNames okSaved narrow goodAt lookup inOrder store step badFrame
 feeds = refl
 
 ran : (p : ℕ) → ranTo depots met p ≡ runAt p start fed
@@ -88,15 +88,15 @@ ran p = ap (runAt p start) feeds
 
 -- number 9 commits at 2, and number 10 aborts at 5
 pub nine-commits : current (ranTo depots met 2 .cells) (conditionGiven (read 2 7 0) .reads) ≡ true
-unfolding beAt bytesOf splice values joined first firstFrom eqList writesOf stamps astray closed decided headerObjects repeats objectsIn earlier writeBytes writeAt readBytes readAt savedBytes savedAt itemBytes itemCount headerOf slotOf decode slot logIn okEntry lowest lowestBad cellAt cellBytes cellsOf tableWith apply savedOf play commitsOver entryOf firstPlace ownTests append openFresh openAt playCall readCell audit accept runAt grown feed isObject isCell hosted okWrite okWrites okRead okReads okSaved narrow goodAt lookup inOrder store step badFrame
+unfolding beAt bytesOf splice values joined first firstFrom eqList writesOf stamps astray closed decided headerObjects repeats objectsIn earlier writeBytes writeAt readBytes readAt savedBytes savedAt itemBytes itemCount headerOf slotOf lastBytes decode slot logIn okEntry lowest lowestBad cellAt cellBytes cellsOf tableWith apply savedOf play commitsOver whole named entryOf firstPlace ownTests append openFresh openAt playCall readCell audit accept runAt grown feed isObject isCell hosted okWrite okWrites okRead okReads okNames okSaved narrow goodAt lookup inOrder store step badFrame
 nine-commits = ap (λ (s : Run). current (s .cells) (conditionGiven (read 2 7 0) .reads)) (ran 2)
 
 pub ten-aborts : current (ranTo depots met 5 .cells) (conditionGiven (read 5 1 0) .reads) ≡ false
-unfolding beAt bytesOf splice values joined first firstFrom eqList writesOf stamps astray closed decided headerObjects repeats objectsIn earlier writeBytes writeAt readBytes readAt savedBytes savedAt itemBytes itemCount headerOf slotOf decode slot logIn okEntry lowest lowestBad cellAt cellBytes cellsOf tableWith apply savedOf play commitsOver entryOf firstPlace ownTests append openFresh openAt playCall readCell audit accept runAt grown feed isObject isCell hosted okWrite okWrites okRead okReads okSaved narrow goodAt lookup inOrder store step badFrame
+unfolding beAt bytesOf splice values joined first firstFrom eqList writesOf stamps astray closed decided headerObjects repeats objectsIn earlier writeBytes writeAt readBytes readAt savedBytes savedAt itemBytes itemCount headerOf slotOf lastBytes decode slot logIn okEntry lowest lowestBad cellAt cellBytes cellsOf tableWith apply savedOf play commitsOver whole named entryOf firstPlace ownTests append openFresh openAt playCall readCell audit accept runAt grown feed isObject isCell hosted okWrite okWrites okRead okReads okNames okSaved narrow goodAt lookup inOrder store step badFrame
 ten-aborts = ap (λ (s : Run). current (s .cells) (conditionGiven (read 5 1 0) .reads)) (ran 5)
 
 ran-left : runAt 6 start fed .cells 5 1 ≡ some left
-unfolding beAt bytesOf splice values joined first firstFrom eqList writesOf stamps astray closed decided headerObjects repeats objectsIn earlier writeBytes writeAt readBytes readAt savedBytes savedAt itemBytes itemCount headerOf slotOf decode slot logIn okEntry lowest lowestBad cellAt cellBytes cellsOf tableWith apply savedOf play commitsOver entryOf firstPlace ownTests append openFresh openAt playCall readCell audit accept runAt grown feed isObject isCell hosted okWrite okWrites okRead okReads okSaved narrow goodAt lookup inOrder store step badFrame
+unfolding beAt bytesOf splice values joined first firstFrom eqList writesOf stamps astray closed decided headerObjects repeats objectsIn earlier writeBytes writeAt readBytes readAt savedBytes savedAt itemBytes itemCount headerOf slotOf lastBytes decode slot logIn okEntry lowest lowestBad cellAt cellBytes cellsOf tableWith apply savedOf play commitsOver whole named entryOf firstPlace ownTests append openFresh openAt playCall readCell audit accept runAt grown feed isObject isCell hosted okWrite okWrites okRead okReads okNames okSaved narrow goodAt lookup inOrder store step badFrame
 ran-left = refl
 
 -- ---- replicas of object 5: fresh, and opened at the checkpoint
@@ -108,14 +108,14 @@ abbrev pub saved5 : Carried
 saved5 = record { replica = record { hosting = 16; position = 4; count = 1 }; table = holding (cell 5 1 (some 6) 3) }
 
 pub opens-fresh : opened depots met (fresh 16 table) ≡ some fresh5
-unfolding beAt bytesOf splice values joined first firstFrom eqList writesOf stamps astray closed decided headerObjects repeats objectsIn earlier writeBytes writeAt readBytes readAt savedBytes savedAt itemBytes itemCount headerOf slotOf decode slot logIn okEntry lowest lowestBad cellAt cellBytes cellsOf tableWith apply savedOf play commitsOver entryOf firstPlace ownTests append openFresh openAt playCall readCell audit accept runAt grown feed isObject isCell hosted okWrite okWrites okRead okReads okSaved narrow goodAt lookup inOrder store step badFrame
+unfolding beAt bytesOf splice values joined first firstFrom eqList writesOf stamps astray closed decided headerObjects repeats objectsIn earlier writeBytes writeAt readBytes readAt savedBytes savedAt itemBytes itemCount headerOf slotOf lastBytes decode slot logIn okEntry lowest lowestBad cellAt cellBytes cellsOf tableWith apply savedOf play commitsOver whole named entryOf firstPlace ownTests append openFresh openAt playCall readCell audit accept runAt grown feed isObject isCell hosted okWrite okWrites okRead okReads okNames okSaved narrow goodAt lookup inOrder store step badFrame
 opens-fresh = refl
 
 abbrev opensAt : Lent → ℕ → Option Carried
 opensAt l o = let log = inLog depots l in ifOpened (openAt depots log o table)
 
 opens-at : opensAt (stood depots met 5) 3 ≡ some saved5
-unfolding beAt bytesOf splice values joined first firstFrom eqList writesOf stamps astray closed decided headerObjects repeats objectsIn earlier writeBytes writeAt readBytes readAt savedBytes savedAt itemBytes itemCount headerOf slotOf decode slot logIn okEntry lowest lowestBad cellAt cellBytes cellsOf tableWith apply savedOf play commitsOver entryOf firstPlace ownTests append openFresh openAt playCall readCell audit accept runAt grown feed isObject isCell hosted okWrite okWrites okRead okReads okSaved narrow goodAt lookup inOrder store step badFrame
+unfolding beAt bytesOf splice values joined first firstFrom eqList writesOf stamps astray closed decided headerObjects repeats objectsIn earlier writeBytes writeAt readBytes readAt savedBytes savedAt itemBytes itemCount headerOf slotOf lastBytes decode slot logIn okEntry lowest lowestBad cellAt cellBytes cellsOf tableWith apply savedOf play commitsOver whole named entryOf firstPlace ownTests append openFresh openAt playCall readCell audit accept runAt grown feed isObject isCell hosted okWrite okWrites okRead okReads okNames okSaved narrow goodAt lookup inOrder store step badFrame
 opens-at = refl
 
 pub opens-saved : opened depots met (atCheckpoint 5 3 table) ≡ some saved5
@@ -141,11 +141,11 @@ abbrev playing : Lent → Carried → ℕ → Left
 playing l r stop = let log = inLog depots l in playCall depots log (r .replica) (r .table) stop
 
 early-left : playing (stood depots met 5) fresh5 4 ≡ waiting
-unfolding beAt bytesOf splice values joined first firstFrom eqList writesOf stamps astray closed decided headerObjects repeats objectsIn earlier writeBytes writeAt readBytes readAt savedBytes savedAt itemBytes itemCount headerOf slotOf decode slot logIn okEntry lowest lowestBad cellAt cellBytes cellsOf tableWith apply savedOf play commitsOver entryOf firstPlace ownTests append openFresh openAt playCall readCell audit accept runAt grown feed isObject isCell hosted okWrite okWrites okRead okReads okSaved narrow goodAt lookup inOrder store step badFrame
+unfolding beAt bytesOf splice values joined first firstFrom eqList writesOf stamps astray closed decided headerObjects repeats objectsIn earlier writeBytes writeAt readBytes readAt savedBytes savedAt itemBytes itemCount headerOf slotOf lastBytes decode slot logIn okEntry lowest lowestBad cellAt cellBytes cellsOf tableWith apply savedOf play commitsOver whole named entryOf firstPlace ownTests append openFresh openAt playCall readCell audit accept runAt grown feed isObject isCell hosted okWrite okWrites okRead okReads okNames okSaved narrow goodAt lookup inOrder store step badFrame
 early-left = refl
 
 late-left : playing (stood depots met 7) (carried waiting) 6 ≡ arrived
-unfolding beAt bytesOf splice values joined first firstFrom eqList writesOf stamps astray closed decided headerObjects repeats objectsIn earlier writeBytes writeAt readBytes readAt savedBytes savedAt itemBytes itemCount headerOf slotOf decode slot logIn okEntry lowest lowestBad cellAt cellBytes cellsOf tableWith apply savedOf play commitsOver entryOf firstPlace ownTests append openFresh openAt playCall readCell audit accept runAt grown feed isObject isCell hosted okWrite okWrites okRead okReads okSaved narrow goodAt lookup inOrder store step badFrame
+unfolding beAt bytesOf splice values joined first firstFrom eqList writesOf stamps astray closed decided headerObjects repeats objectsIn earlier writeBytes writeAt readBytes readAt savedBytes savedAt itemBytes itemCount headerOf slotOf lastBytes decode slot logIn okEntry lowest lowestBad cellAt cellBytes cellsOf tableWith apply savedOf play commitsOver whole named entryOf firstPlace ownTests append openFresh openAt playCall readCell audit accept runAt grown feed isObject isCell hosted okWrite okWrites okRead okReads okNames okSaved narrow goodAt lookup inOrder store step badFrame
 late-left = refl
 
 pub waits : played depots met fresh5 early ≡ waiting
@@ -160,7 +160,7 @@ there = ap (λ (l : Left). carried (played depots met (carried l) late)) waits �
 
 -- and shows what the run has there
 reads-left : shown depots (carried arrived) 5 1 ≡ done (some left)
-unfolding beAt bytesOf splice values joined first firstFrom eqList writesOf stamps astray closed decided headerObjects repeats objectsIn earlier writeBytes writeAt readBytes readAt savedBytes savedAt itemBytes itemCount headerOf slotOf decode slot logIn okEntry lowest lowestBad cellAt cellBytes cellsOf tableWith apply savedOf play commitsOver entryOf firstPlace ownTests append openFresh openAt playCall readCell audit accept runAt grown feed isObject isCell hosted okWrite okWrites okRead okReads okSaved narrow goodAt lookup inOrder store step badFrame
+unfolding beAt bytesOf splice values joined first firstFrom eqList writesOf stamps astray closed decided headerObjects repeats objectsIn earlier writeBytes writeAt readBytes readAt savedBytes savedAt itemBytes itemCount headerOf slotOf lastBytes decode slot logIn okEntry lowest lowestBad cellAt cellBytes cellsOf tableWith apply savedOf play commitsOver whole named entryOf firstPlace ownTests append openFresh openAt playCall readCell audit accept runAt grown feed isObject isCell hosted okWrite okWrites okRead okReads okNames okSaved narrow goodAt lookup inOrder store step badFrame
 reads-left = refl
 
 pub shows-so : shown depots (plays depots met fresh5 (early ∷ late ∷ [])) 5 1

@@ -46,5 +46,5 @@ pub orders-differ : (let l = logBy 3 three in
     && leftIs 255 96 (audit depots log (lentTable 96)) (ends 3 inCellOrder)
     && eqb (code (readCellLast depots ended (joined cellBytes firstWritten) 2 9)) 0
     && eqb (code (readCell depots ended (joined cellBytes firstWritten) 2 9)) 10) ≡ true
-unfolding beAt bytesOf splice values joined first firstFrom eqList writesOf stamps astray closed decided headerObjects earlier writeBytes writeAt readBytes readAt savedBytes savedAt itemBytes itemCount headerOf slotOf decode slot logIn okEntry lowest lowestBad cellAt cellBytes cellsOf tableWith apply savedOf play commitsOver entryOf firstPlace ownTests append openFresh playCall readCell audit grown isObject isCell hosted okWrite okWrites okRead okReads okSaved narrow goodAt lookup inOrder store step badFrame objectsIn repeats storeLast applyLast stepLast playLast playCallLast readCellLast auditLast
+unfolding beAt bytesOf splice values joined first firstFrom eqList writesOf stamps astray closed decided headerObjects earlier writeBytes writeAt readBytes readAt savedBytes savedAt itemBytes itemCount headerOf slotOf lastBytes decode slot logIn okEntry lowest lowestBad cellAt cellBytes cellsOf tableWith apply savedOf play commitsOver whole named entryOf firstPlace ownTests append openFresh playCall readCell audit grown isObject isCell hosted okWrite okWrites okRead okReads okNames okSaved narrow goodAt lookup inOrder store step badFrame objectsIn repeats storeLast applyLast stepLast playLast playCallLast readCellLast auditLast
 orders-differ = refl

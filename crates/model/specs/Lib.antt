@@ -22,6 +22,7 @@ pub mod OwedClaims
 pub mod PriceClaims
 pub mod Report
 pub mod Worked
+pub mod Named
 pub mod Literal
 pub mod Samples
 pub mod Priced

@@ -13,17 +13,17 @@ use Rattle.lists.specs.Rows.{values, joined}
 use Rattle.lists.specs.First.{first, firstFrom}
 use Rattle.lists.specs.Equal.{eqList}
 use Rattle.model.specs.Objects.{Object, ObjectKind, aMap, aRegister, theObjects, theLayout, depots, ids, isObject, isCell, hosted, setOf, everything}
-use Rattle.model.specs.Entries.{Held, Saved, Entry, isNone, numbered, commit, decision, checkpoint, Log, writesOf, stamps, astray, closed, decided, headerObjects, numberOf, earlier}
-use Rattle.model.specs.Slot.{valueField, headerWith, writeBytes, writeAt, readBytes, readAt, savedBytes, savedAt, itemBytes, itemCount, headerOf, slotOf, decode, slot, logIn, objectsIn}
-use Rattle.model.specs.Rules.{okEntry, lowest, lowestBad, okWrite, okWrites, okRead, okReads, okSaved, narrow, goodAt, repeats}
+use Rattle.model.specs.Entries.{Held, Saved, Entry, isNone, numbered, commit, decision, checkpoint, Log, writesOf, stamps, astray, closed, decided, headerObjects, earlier, named}
+use Rattle.model.specs.Slot.{valueField, headerWith, writeBytes, writeAt, readBytes, readAt, savedBytes, savedAt, itemBytes, itemCount, headerOf, slotOf, decode, slot, logIn, objectsIn, lastBytes}
+use Rattle.model.specs.Rules.{okEntry, lowest, lowestBad, okWrite, okWrites, okRead, okReads, okSaved, narrow, goodAt, repeats, okNames}
 use Rattle.model.specs.Directory.{recordBytes, directoryOf}
 use Rattle.model.specs.Table.{cellAt, cellBytes, cellsOf, tableWith, apply, savedOf, lookup, inOrder, store}
-use Rattle.model.specs.Play.{play, commitsOver, step}
+use Rattle.model.specs.Play.{play, commitsOver, step, whole}
 use Rattle.model.specs.Answers.{Answer, done, refused, firstPlace, badFrame}
-use Rattle.model.specs.Append.{Request, update, commits, decides, saves, decisionOf, entryOf, ownTests, append}
+use Rattle.model.specs.Append.{Request, update, decides, saves, decisionOf, entryOf, ownTests, append}
 use Rattle.model.specs.Replica.{openFresh, playCall, readCell}
 use Rattle.model.specs.Histories.{grown}
-use Rattle.model.specs.Worked.{put, remove, read, cell, logBy, freshTo}
+use Rattle.model.specs.Worked.{put, remove, read, cell, logBy, freshTo, commitOf}
 
 abbrev zeros : ℕ → List ℕ
 zeros n = replicate n 0
@@ -38,7 +38,7 @@ kinds =
     update 0 (put 5 0x1234 0x01020304 ++ remove 5 0x0102 ++ put 1 0x270F 0xFFFFFFFE ++ put 2 0x01F3 0xA0B0C0D0 ++ put 3 0x0103 0x80)
     ∷ update number (put 6 0 0x00FF0001 ++ put 2 0x01F3 0x0100)
     ∷ update number (put 4 0x11 0x11223344)
-    ∷ commits number (read 1 0x0102 0 ++ read 1 0x270F 1 ++ read 2 0 0 ++ read 2 0x01F3 1 ++ read 3 0x0102 0 ++ read 3 0x0103 1
+    ∷ commitOf number (read 1 0x0102 0 ++ read 1 0x270F 1 ++ read 2 0 0 ++ read 2 0x01F3 1 ++ read 3 0x0102 0 ++ read 3 0x0103 1
     ++ read 4 0x11 0 ++ read 5 0x0102 0 ++ read 5 0x1234 1 ++ read 6 0 0 ++ read 7 0 0 ++ read 8 0 0)
     ∷ decides 3 2
     ∷ saves (record { hosting = 0x32; position = 5; count = 4 })
@@ -139,7 +139,7 @@ slot6 =
 -- the log that the appends leave in eight slots: seven entries, and the last slot as it was
 pub entries-written : (let l = logBy 8 kinds in
     eqb (l .tail) 7 && eqList (l .bytes) (slot0 ++ slot1 ++ slot2 ++ slot3 ++ slot4 ++ slot5 ++ slot6 ++ replicate 256 7)) ≡ true
-unfolding beAt bytesOf splice values joined first firstFrom eqList writesOf stamps astray closed decided headerObjects earlier writeBytes writeAt readBytes readAt savedBytes savedAt itemBytes itemCount headerOf slotOf decode slot logIn okEntry lowest lowestBad cellAt cellBytes cellsOf inOrder savedOf commitsOver entryOf firstPlace ownTests append grown isObject isCell hosted okWrite okWrites okRead okReads okSaved narrow goodAt badFrame objectsIn repeats
+unfolding beAt bytesOf splice values joined first firstFrom eqList writesOf stamps astray closed decided headerObjects earlier writeBytes writeAt readBytes readAt savedBytes savedAt itemBytes itemCount headerOf slotOf lastBytes decode slot logIn okEntry lowest lowestBad cellAt cellBytes cellsOf inOrder savedOf commitsOver whole named entryOf firstPlace ownTests append grown isObject isCell hosted okWrite okWrites okRead okReads okNames okSaved narrow goodAt badFrame objectsIn repeats
 entries-written = refl
 
 -- Table cells: object, key, value, present, version. Object 5 played over entry 0 and a table of 50 bytes: a removed cell, whose key is
@@ -159,12 +159,12 @@ pub cells-written : (
     && shows (readCell depots (record { hosting = 0x10; position = 0; count = 1 }) (
     0x00 ∷ 0x00 ∷ 0x00 ∷ 0x05 ∷ 0x00 ∷ 0x00 ∷ 0x12 ∷ 0x34 ∷ 0xA0 ∷ 0xB0 ∷ 0xC0 ∷ 0xD0 ∷ 0x00 ∷ 0x00 ∷ 0x00 ∷ 0x01
     ∷ 0x01 ∷ 0x02 ∷ 0x03 ∷ 0x04 ∷ 0x05 ∷ 0x06 ∷ 0x07 ∷ 0x08 ∷ []) 5 0x1234) 0x0102030405060708 0xA0B0C0D0) ≡ true
-unfolding beAt bytesOf splice values joined first firstFrom eqList writesOf stamps astray closed decided headerObjects earlier writeBytes writeAt readBytes readAt savedBytes savedAt itemBytes itemCount headerOf slotOf decode slot logIn okEntry lowest lowestBad cellAt cellBytes cellsOf tableWith apply savedOf play commitsOver entryOf firstPlace ownTests append openFresh playCall readCell grown isObject isCell hosted okWrite okWrites okRead okReads okSaved narrow goodAt lookup inOrder store step badFrame objectsIn repeats
+unfolding beAt bytesOf splice values joined first firstFrom eqList writesOf stamps astray closed decided headerObjects earlier writeBytes writeAt readBytes readAt savedBytes savedAt itemBytes itemCount headerOf slotOf lastBytes decode slot logIn okEntry lowest lowestBad cellAt cellBytes cellsOf tableWith apply savedOf play commitsOver whole named entryOf firstPlace ownTests append openFresh playCall readCell grown isObject isCell hosted okWrite okWrites okRead okReads okNames okSaved narrow goodAt lookup inOrder store step badFrame objectsIn repeats
 cells-written = refl
 
 -- A long log, without bytes: object 2 has the update at 0 and its commit record at 0x0304, and every other entry is of object 1.
 abbrev reads203 : Entry
-reads203 = commit number (record { reads = record { object = 2; key = 0x01F3; version = 0x0203 } ∷ [] })
+reads203 = commit number (record { reads = record { object = 2; key = 0x01F3; version = 0x0203 } ∷ []; first = 0x01020304; second = 0xF1F2F3F4 })
 
 abbrev long : Log
 long = record {
@@ -177,14 +177,15 @@ long = record {
 abbrev saved : List Saved
 saved = record { key = 0; held = record { version = 0x0403; content = some 5 } } ∷ record { key = 1; held = record { version = 0x0305; content = none } } ∷ []
 
--- distances, a read's version, a decision's offset and a checkpoint's versions, of two bytes each
+-- distances, a read's version, a decision's offset and a checkpoint's versions, of two bytes each, and two names of four
 pub long-written : (
     eqList (slotOf theLayout long 0x0304 reads203) (
     0x43 ∷ 0x4F ∷ 0x01 ∷ 0x01 ∷ 0x0A ∷ 0x0B ∷ 0x0C ∷ 0x0D
     ∷ 0x00 ∷ 0x00 ∷ 0x00 ∷ 0x02 ∷ 0x03 ∷ 0x04 ∷ 0x00 ∷ 0x00 ∷ 0x00 ∷ 0x00 ∷ 0x00 ∷ 0x00
     ∷ zeros 36
     ++ 0x00 ∷ 0x00 ∷ 0x00 ∷ 0x02 ∷ 0x00 ∷ 0x00 ∷ 0x01 ∷ 0xF3 ∷ 0x00 ∷ 0x00 ∷ 0x00 ∷ 0x00 ∷ 0x00 ∷ 0x00 ∷ 0x02 ∷ 0x03
-    ∷ zeros 184)
+    ∷ zeros 176
+    ++ 0x01 ∷ 0x02 ∷ 0x03 ∷ 0x04 ∷ 0xF1 ∷ 0xF2 ∷ 0xF3 ∷ 0xF4 ∷ [])
     && eqList (slotOf theLayout long 0x0405 (decision (decisionOf long 0x0304 1))) (
     0x44 ∷ 0x45 ∷ 0x01 ∷ 0x01 ∷ 0x0A ∷ 0x0B ∷ 0x0C ∷ 0x0D
     ∷ 0x00 ∷ 0x00 ∷ 0x00 ∷ 0x02 ∷ 0x01 ∷ 0x01 ∷ 0x04 ∷ 0x05 ∷ 0x00 ∷ 0x00 ∷ 0x00 ∷ 0x00
@@ -198,7 +199,7 @@ pub long-written : (
     ++ 0x00 ∷ 0x00 ∷ 0x00 ∷ 0x00 ∷ 0x00 ∷ 0x00 ∷ 0x00 ∷ 0x05 ∷ 0x00 ∷ 0x00 ∷ 0x00 ∷ 0x00 ∷ 0x00 ∷ 0x00 ∷ 0x04 ∷ 0x03
     ∷ 0x00 ∷ 0x00 ∷ 0x00 ∷ 0x01 ∷ 0x00 ∷ 0x00 ∷ 0x00 ∷ 0x00 ∷ 0x80 ∷ 0x00 ∷ 0x00 ∷ 0x00 ∷ 0x00 ∷ 0x00 ∷ 0x03 ∷ 0x05
     ∷ zeros 168)) ≡ true
-unfolding bytesOf joined eqList writesOf headerObjects earlier writeBytes readBytes savedBytes itemBytes itemCount headerOf slotOf
+unfolding bytesOf joined eqList writesOf headerObjects earlier writeBytes readBytes savedBytes itemBytes itemCount headerOf slotOf lastBytes
 long-written = refl
 
 -- A header from the offsets of the earlier entries. Format 0: 65,535 away is a distance, more is none, for the second as for the

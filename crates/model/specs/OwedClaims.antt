@@ -24,11 +24,11 @@ NoneWaits sh = (log : Log) (sets : List ℕ) → owed sh log sets ≡ done none
 -- ---- what is owed
 
 -- At q stands a commit record, and some declared set holds an object of its headers, those that the updates of its number write, but not some
--- object that it reads; and no decision record below the tail names it.
+-- object that it reads, or names a number and is not the whole directory; and no decision record below the tail names it.
 pub record Owes (sh : Shape) (log : Log) (sets : List ℕ) (q : ℕ) : Type 0 where
   pub set : ℕ
   pub declared : List·Memᴰ set sets
-  pub blocked : Blocked log (hosted sh set) q
+  pub blocked : Blocked sh log (hosted sh set) q
 
 -- at most so many sets, each with an object, and with no bit past the directory
 pub record Declarable (sh : Shape) (sets : List ℕ) : Type 0 where

@@ -10,7 +10,7 @@ use Rattle.model.specs.Objects.{Shape, ids, isCell, hosted, setOf, every
 use Rattle.model.specs.Entries.{Held, Saved, Entry, plain, numbered, commit, decision, checkpoint, blank, Log, commitAt, ifSome, isNone}
 use Rattle.model.specs.Rules.{lowest}
 use Rattle.model.specs.Table.{Cell, cellsOf, tableWith, capacity, lookup, cellOf, savedOf}
-use Rattle.model.specs.Play.{Played, going, waits, lacks, cellsIn, commitsOver, play, Beginning, beginning}
+use Rattle.model.specs.Play.{Played, going, waits, lacks, cellsIn, commitsOver, whole, play, Beginning, beginning}
 use Rattle.model.specs.Answers.{Refusal, Answer, done, refused, refuse, refuseAt, firstOf, answer, badDirectory, frameAndEntries}
 use Rattle.model.specs.Append.{Replica, badRecord, badReplica}
 
@@ -102,9 +102,9 @@ readCell sh r table o k =
 abbrev pub auditPlay : Shape → Log → ℕ → ℕ → Played
 auditPlay sh log room p = let b = beginning log (ids sh) in play sh log (ids sh) room (b .position) (b .cells) p
 
--- whether the commit record at p commits over the cells as played to it
+-- whether the commit record at p commits over the cells as played to it (11.3)
 abbrev pub commitsThere : Shape → Log → ℕ → ℕ → Bool
-commitsThere sh log room p = ifSome (commitAt log p) false (λ c. commitsOver (lookup (cellsIn (auditPlay sh log room p))) (c .condition))
+commitsThere sh log room p = ifSome (commitAt log p) false (λ c. commitsOver (lookup (cellsIn (auditPlay sh log room p))) (whole log p .won) (c .condition))
 
 -- equal lists of a checkpoint's cells
 abbrev pub sameContent : Option ℕ → Option ℕ → Bool

@@ -16,19 +16,19 @@ use Rattle.lists.specs.Picks.{picks}
 use Rattle.lists.specs.Equal.{eqList}
 use Rattle.lists.specs.Sets.{all, any, isEmpty, mem, meets}
 use Rattle.model.specs.Objects.{Object, ObjectKind, aMap, aRegister, theLayout, Shape, isObject, isCell, hosted}
-use Rattle.model.specs.Entries.{Read, Held, Log, decisionIn, commitAt, ifSome, isNone, writesOf, stamps, astray, closed, decided, Decision, headerObjects, numberOf, earlier, commitObjects}
-use Rattle.model.specs.Slot.{writeBytes, writeAt, readBytes, readAt, savedBytes, savedAt, itemBytes, itemCount, headerOf, slotOf, decode, slot, logIn, objectsIn}
-use Rattle.model.specs.Rules.{okEntry, lowest, lowestBad, okWrite, okWrites, okRead, okReads, okSaved, narrow, goodAt, repeats}
+use Rattle.model.specs.Entries.{Read, Held, Log, decisionIn, commitAt, ifSome, isNone, writesOf, stamps, astray, closed, decided, Decision, headerObjects, numberOf, earlier, commitObjects, named}
+use Rattle.model.specs.Slot.{writeBytes, writeAt, readBytes, readAt, savedBytes, savedAt, itemBytes, itemCount, headerOf, slotOf, decode, slot, logIn, objectsIn, lastBytes}
+use Rattle.model.specs.Rules.{okEntry, lowest, lowestBad, okWrite, okWrites, okRead, okReads, okSaved, narrow, goodAt, repeats, okNames}
 use Rattle.model.specs.Table.{Cell, Holds, cellAt, cellBytes, cellsOf, tableWith, capacity, apply, savedOf, versionIn, lookup, inOrder, store}
-use Rattle.model.specs.Play.{play, commitsOver, outcome, step, waitsAt}
+use Rattle.model.specs.Play.{play, commitsOver, outcome, step, waitsAt, whole}
 use Rattle.model.specs.Answers.{Answer, done, refused, firstPlace, badFrame}
 use Rattle.model.specs.Reading.{Info, badSets, owes, owed, entryCall, itemList, infoIn}
 use Rattle.model.specs.Append.{Request, update, commits, decides, saves, entryOf, ownTests, append}
 use Rattle.model.specs.Replica.{Left, openFresh, openAt, playCall, readCell, audit, sameContent}
-use Rattle.model.specs.Run.{Run, start, current, accept, runAt}
+use Rattle.model.specs.Run.{Run, start, commitsNow, accept, runAt}
 use Rattle.model.specs.Histories.{Lent, inLog, empty, after, grown, feed, History, wholeLog, stood, Carried, carried, Opening, fresh, atCheckpoint, opened, hosts, shown, cellsWritten}
-use Rattle.model.specs.Claims.{kindGiven, headerObjectsIn}
-use Rattle.model.specs.Worked.{code, tells, sameOffset, put, read, cell}
+use Rattle.model.specs.Claims.{kindGiven, firstGiven, secondGiven, headerObjectsIn}
+use Rattle.model.specs.Worked.{code, tells, sameOffset, put, read, cell, commitOf}
 
 -- the eight objects with fewer keys, so that every cell can be looked at; their layout is the same
 abbrev pub obj : ℕ → ObjectKind → ℕ → Bool → Object
@@ -85,20 +85,20 @@ eachCell [] set f = true
 eachCell (b ∷ bs) set f = (not (mem b.id set) || below (f (b .id)) (suc b.highest)) && eachCell bs set f
 
 -- ReadsBack for each append of a list
-abbrev pub isInfo : Answer Info → ℕ → ℕ → List ℕ → Bool
-isInfo (done i) k n os = eqb i.kind k && eqb i.number n && eqList (headerObjectsIn i) os
-isInfo (refused r) k n os = false
+abbrev pub isInfo : Answer Info → ℕ → ℕ → List ℕ → ℕ → ℕ → Bool
+isInfo (done i) k n os a b = eqb i.kind k && eqb i.number n && eqList (headerObjectsIn i) os && eqb i.first a && eqb i.second b
+isInfo (refused r) k n os a b = false
 
 abbrev pub givenItems : Log → Request → List ℕ
 givenItems log (update n items) = items
-givenItems log (commits n items) = items
+givenItems log (commits n items a b) = items
 givenItems log (decides o v) = itemBytes (entryOf log (decides o v))
 givenItems log (saves r table o) = itemBytes (entryOf log (saves r table o))
 
 abbrev pub backHolds : Lent → Request → Lent → Bool
 backHolds l q new =
     let log = inLog small new in
-    isInfo (entryCall small log (l .tail)) (kindGiven q) (numberOf (entryOf (inLog small l) q)) (headerObjects (inLog small l) (l .tail) (entryOf (inLog small l) q))
+    isInfo (entryCall small log (l .tail)) (kindGiven q) (numberOf (entryOf (inLog small l) q)) (headerObjects (inLog small l) (l .tail) (entryOf (inLog small l) q)) (firstGiven q) (secondGiven q)
     && eqList (itemList small log (l .tail)) (givenItems (inLog small l) q)
 
 abbrev pub backsHold : Lent → List Request → Bool
@@ -108,7 +108,8 @@ backsHold l (q ∷ qs) = let new = after small l q in (eqb (new .tail) (l .tail)
 -- Blocked as a test
 abbrev pub blocked : Log → List ℕ → ℕ → Bool
 blocked log set q = ifSome (commitAt log q) false (λ c. meets set (commitObjects log q (c .number))
-    && any (λ (x : Read). not (mem x.object set)) (c .condition .reads)
+    && (any (λ (x : Read). not (mem x.object set)) (c .condition .reads)
+    || (ltb 0 (c .condition .first + c .condition .second) && any (λ (b : Object). not (mem b.id set)) (small .objects)))
     && below (λ d. ifSome (decisionIn (log .entry d)) true (λ (r : Decision). not (eqb r.offset q))) (log .tail))
 
 -- OwesExactly, by that test
@@ -136,7 +137,7 @@ rereadHolds r cells x = same (shown small r x.object x.key)
 -- (the run at count p is `ran p`)
 abbrev pub rereadsHold : (ℕ → Run) → Log → Carried → Bool
 rereadsHold ran log r = below (λ p. ifSome (commitAt log p) true
-    (λ c. not (current (ran p .cells) (c .condition .reads)) || all (rereadHolds r (ran p .cells)) (c .condition .reads))) (log .tail)
+    (λ c. not (commitsNow (ran p) (c .condition)) || all (rereadHolds r (ran p .cells)) (c .condition .reads))) (log .tail)
 
 -- SameOutcomes at the replica's position
 abbrev pub outcomeHolds : (ℕ → Run) → Log → Carried → Bool
@@ -144,7 +145,7 @@ outcomeHolds ran log r =
     let p = r .replica .position in
     ifSome (commitAt log p) true (λ c. not (meets (hosts small r) (commitObjects log p (c .number)))
     || ifSome (outcome small log (hosts small r) p (cellsOf (r .table) (r .replica .count)) (c .condition)) true
-    (λ b. Bool·beq b (current (ran p .cells) (c .condition .reads))))
+    (λ b. Bool·beq b (commitsNow (ran p) (c .condition))))
 
 -- the parts of Shows that speak of the replica as it is
 abbrev pub cellsHold : (ℕ → Run) → Log → Carried → Bool
@@ -223,7 +224,11 @@ both = put 2 7 1 ++ put 5 1 2
 
 -- object 5 depends on what was read of object 2
 abbrev pub across : List Request
-across = update 9 both ∷ commits 9 (read 2 7 0) ∷ []
+across = update 9 both ∷ commitOf 9 (read 2 7 0) ∷ []
+
+-- 9 commits, and 10 is open
+abbrev pub after9 : List Request
+after9 = update 9 (put 5 1 6) ∷ commitOf 9 [] ∷ update 10 (put 4 2 1) ∷ []
 
 -- a log that the audit passes, with an opening and plays; it owes a replica of everything nothing
 abbrev pub passes : List Request → ℕ → Opening → List Turn → Sample
@@ -241,15 +246,20 @@ indebted sets qs n o = record { requests = qs; tail = n; audits = 0; auditTells 
 abbrev pub mistakes : List Sample
 mistakes =
     -- an update set aside before the checkpoint at which a replica opens, and before a later instalment
-    passes (update 9 (put 2 7 1) ∷ save 1 [] ∷ commits 9 [] ∷ []) 3 (atCheckpoint 3 1 five) (to 3 3 ∷ [])
-    ∷ passes (update 9 (put 2 7 1) ∷ update 0 (put 2 8 1) ∷ commits 9 [] ∷ []) 3 all8 (to 3 2 ∷ to 3 3 ∷ [])
+    passes (update 9 (put 2 7 1) ∷ save 1 [] ∷ commitOf 9 [] ∷ []) 3 (atCheckpoint 3 1 five) (to 3 3 ∷ [])
+    ∷ passes (update 9 (put 2 7 1) ∷ update 0 (put 2 8 1) ∷ commitOf 9 [] ∷ []) 3 all8 (to 3 2 ∷ to 3 3 ∷ [])
     -- false records at two offsets
     ∷ fails (across ++ (decides 1 2 ∷ [])) 3 2
     ∷ fails (update 0 (put 2 7 4) ∷ save 1 (cell 2 7 (some 5) 1 ∷ []) ∷ []) 2 1
     -- a decision owed to the second set alone
-    ∷ indebted (4 ∷ 2 ∷ []) (update 9 (put 2 7 1) ∷ commits 9 (read 3 1 0) ∷ []) 2 1
+    ∷ indebted (4 ∷ 2 ∷ []) (update 9 (put 2 7 1) ∷ commitOf 9 (read 3 1 0) ∷ []) 2 1
+    -- a transaction that names another, which committed below it, or commits above it; a replica of both objects is owed a decision, and waits for it
+    ∷ passes (after9 ++ (commits 10 [] 9 0 ∷ [])) 4 all8 (to 3 3 ∷ to 4 4 ∷ [])
+    ∷ passes (update 9 (put 5 1 6) ∷ update 10 (put 4 2 1) ∷ commits 10 [] 9 0 ∷ commitOf 9 [] ∷ []) 4 all8 (to 4 4 ∷ [])
+    ∷ indebted (24 ∷ []) (after9 ++ (commits 10 [] 9 0 ∷ [])) 4 3
+    ∷ passes (after9 ++ (commits 10 [] 9 0 ∷ decides 3 1 ∷ [])) 5 (fresh 24 five) (but 4 4 12 3 ∷ to 5 5 ∷ [])
     ∷ []
 
 pub mistakes-shown : all sampleHolds mistakes ≡ true
-unfolding sampleHolds beAt bytesOf splice values joined first firstFrom picks eqList writesOf stamps astray closed decided headerObjects earlier writeBytes writeAt readBytes readAt savedBytes savedAt itemBytes itemCount headerOf slotOf decode slot logIn okEntry lowest lowestBad cellAt cellBytes cellsOf tableWith apply savedOf play commitsOver waitsAt badSets owes owed entryCall itemList infoIn entryOf firstPlace ownTests append openFresh openAt playCall readCell audit accept runAt grown feed isObject isCell hosted okWrite okWrites okRead okReads okSaved narrow goodAt lookup inOrder store step badFrame objectsIn repeats
+unfolding sampleHolds beAt bytesOf splice values joined first firstFrom picks eqList writesOf stamps astray closed decided headerObjects earlier writeBytes writeAt readBytes readAt savedBytes savedAt itemBytes itemCount headerOf slotOf lastBytes decode slot logIn okEntry lowest lowestBad cellAt cellBytes cellsOf tableWith apply savedOf play commitsOver whole named waitsAt badSets owes owed entryCall itemList infoIn entryOf firstPlace ownTests append openFresh openAt playCall readCell audit accept runAt grown feed isObject isCell hosted okWrite okWrites okRead okReads okNames okSaved narrow goodAt lookup inOrder store step badFrame objectsIn repeats
 mistakes-shown = refl

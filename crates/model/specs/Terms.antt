@@ -9,14 +9,16 @@ use mathlib.Core.Option.{Option, none, some}
 use lib.Dec.{eqb}
 use lib.ListN.{length}
 use Rattle.lists.specs.Sets.{mem}
-use Rattle.model.specs.Objects.{Shape, isCell, hosted}
+use Rattle.model.specs.Objects.{Shape, isObject, isCell, hosted}
 use Rattle.model.specs.Entries.{Write, Read, Held, Saved, Condition, Decision, plain, numbered, commit, decision, Log, writesOf}
 use Rattle.model.specs.Slot.{mostSlots, itemSize}
 use Rattle.model.specs.Rules.{goodAt}
 use Rattle.model.specs.Table.{Cell, Holds, cellsOf, capacity, versionIn, lookup}
+use Rattle.model.specs.Play.{whole}
 use Rattle.model.specs.Answers.{done}
 use Rattle.model.specs.Append.{Replica, Request, update, commits, decides, saves, writesGiven, conditionGiven}
 use Rattle.model.specs.Replica.{Left, plainly}
+use Rattle.model.specs.Run.{Run}
 use Rattle.model.specs.Histories.{Lent, inLog, Carried}
 
 -- ---- the directory and the log
@@ -62,18 +64,46 @@ Decided log q p = (d : ℕ) × (r : Decision) × (d < p) × (log .entry d ≡ de
 abbrev pub Stale : Holds → Condition → Type 0
 Stale cells c = (x : Read) × List·Memᴰ x (c .reads) × (versionIn (cells x.object x.key) ≡ x .version → ⊥)
 
+-- it names this transaction number
+abbrev pub Names : Condition → ℕ → Type 0
+Names c m = (m ≡ 0 → ⊥) × ((c .first ≡ m) ⊎ (c .second ≡ m))
+
+-- a number that it names has not committed
+abbrev pub Unmet : (ℕ → Type 0) → Condition → Type 0
+Unmet Won c = (m : ℕ) × Names c m × (Won m → ⊥)
+
+-- it aborts over these cells, after these numbers committed: a read is stale, or a number is unmet
+abbrev pub Aborts : Holds → (ℕ → Type 0) → Condition → Type 0
+Aborts cells Won c = Stale cells c ⊎ Unmet Won c
+
+-- in a run, and over cells of a replica with the numbers that committed below p in the whole log
+abbrev pub AbortsIn : Run → Condition → Type 0
+AbortsIn s c = Aborts (s .cells) (λ m. s .won m ≡ true) c
+
+abbrev pub AbortsAt : Log → ℕ → Holds → Condition → Type 0
+AbortsAt log p cells c = Aborts cells (λ m. mem m (whole log p .won) ≡ true) c
+
+-- number n has a commit record below p that does not abort there, by the whole log below it
+abbrev pub Won : Log → ℕ → ℕ → Type 0
+Won log n p = (q : ℕ) × (c : Condition) × (q < p) × (log .entry q ≡ commit n c) × (AbortsAt log q (lookup (whole log q .cells)) c → ⊥)
+
 -- the commit record of number n at p is of one of the set's objects: an update of its number writes it
 abbrev pub Concerns : Log → List ℕ → ℕ → ℕ → Type 0
 Concerns log set n p = (w : Write) × SetAside log n p w × (mem w.object set ≡ true)
 
+-- it reads an object outside the set, as it counts to do also where it names a number and the set is not the whole directory
+abbrev pub Outside : Shape → List ℕ → Condition → Type 0
+Outside sh set c = ((x : Read) × List·Memᴰ x (c .reads) × (mem x.object set ≡ false))
+    ⊎ ((m : ℕ) × Names c m × (o : ℕ) × (isObject sh o ≡ true) × (mem o set ≡ false))
+
 -- at q stands a commit record of the set's objects that reads an object outside the set, and that no decision record below the
 -- tail names
-pub record Blocked (log : Log) (set : List ℕ) (q : ℕ) : Type 0 where
+pub record Blocked (sh : Shape) (log : Log) (set : List ℕ) (q : ℕ) : Type 0 where
   pub number : ℕ
   pub condition : Condition
   pub here : log .entry q ≡ commit number condition
   pub concerns : Concerns log set number q
-  pub outside : (x : Read) × List·Memᴰ x (condition .reads) × (mem x.object set ≡ false)
+  pub outside : Outside sh set condition
   pub undecided : Decided log q (log .tail) → ⊥
 
 -- ---- plays
@@ -148,19 +178,26 @@ pub data Stamps (log : Log) (e o k : ℕ) : Type 0 where
 abbrev pub Pointed : Log → Read → Type 0
 Pointed log x = (x .version ≡ 0) ⊎ ((e : ℕ) × (x .version ≡ e + 1) × Stamps log e x.object x.key)
 
+-- none is named, or one, which is the first, or two, the first the smaller one; each fits its field, and none is the transaction's own
+pub record NamesAllowed (n : ℕ) (c : Condition) : Type 0 where
+  pub small : (c .first < 2 ^ 32) × (c .second < 2 ^ 32)
+  pub ordered : (c .second ≡ 0) ⊎ ((1 ≤ c .first) × (c .first < c .second))
+  pub others : Names c n → ⊥
+
 -- a commit that neither 3, 4 nor 6 stops
-pub record CommitAsked (sh : Shape) (log : Log) (n : ℕ) (items : List ℕ) : Type 0 where
-  pub whole : length items ≡ itemSize * length (conditionGiven items .reads)
+pub record CommitAsked (sh : Shape) (log : Log) (n : ℕ) (c : Condition) (items : List ℕ) : Type 0 where
+  pub whole : length items ≡ itemSize * length (c .reads)
   pub number : (1 ≤ n) × (n < 2 ^ 32)
-  pub few : length (conditionGiven items .reads) ≤ sh .layout .items
-  pub each : (x : Read) → List·Memᴰ x (conditionGiven items .reads) → (isCell sh x.object x.key ≡ true) × (x .version ≤ log .tail)
-  pub ascend : Ascend (conditionGiven items .reads)
+  pub few : length (c .reads) ≤ sh .layout .items
+  pub each : (x : Read) → List·Memᴰ x (c .reads) → (isCell sh x.object x.key ≡ true) × (x .version ≤ log .tail)
+  pub ascend : Ascend (c .reads)
+  pub names : NamesAllowed n c
   pub uncommitted : Committed log n (log .tail) → ⊥
   pub updated : (w : Write) × SetAside log n (log .tail) w
 
-pub record CommitAllowed (sh : Shape) (log : Log) (n : ℕ) (items : List ℕ) : Type 0 where
-  pub asked : CommitAsked sh log n items
-  pub pointed : (x : Read) → List·Memᴰ x (conditionGiven items .reads) → Pointed log x
+pub record CommitAllowed (sh : Shape) (log : Log) (n : ℕ) (c : Condition) (items : List ℕ) : Type 0 where
+  pub asked : CommitAsked sh log n c items
+  pub pointed : (x : Read) → List·Memᴰ x (c .reads) → Pointed log x
 
 pub record DecisionAllowed (log : Log) (o v : ℕ) : Type 0 where
   pub below : o < log .tail
@@ -188,7 +225,7 @@ pub record CheckpointAllowed (sh : Shape) (log : Log) (r : Replica) (table : Lis
 
 abbrev pub Allowed : Shape → Log → Request → Type 0
 Allowed sh log (update n items) = UpdateAllowed sh log n items
-Allowed sh log (commits n items) = CommitAllowed sh log n items
+Allowed sh log (commits n items a b) = CommitAllowed sh log n (conditionGiven items a b) items
 Allowed sh log (decides o v) = DecisionAllowed log o v
 Allowed sh log (saves r table o) = CheckpointAllowed sh log r table o
 

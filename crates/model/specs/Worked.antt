@@ -15,13 +15,13 @@ use Rattle.lists.specs.First.{first, firstFrom}
 use Rattle.lists.specs.Equal.{eqList}
 use Rattle.lists.specs.Sets.{all}
 use Rattle.model.specs.Objects.{aMap, aRegister, theObjects, theLayout, depots, Shape, everything, isObject, isCell, hosted}
-use Rattle.model.specs.Entries.{checkpoint, Log, writesOf, stamps, astray, closed, decided, headerObjects, numberOf, earlier}
-use Rattle.model.specs.Slot.{headersBegin, headerSize, itemsBegin, distanceTo, headerWith, writeBytes, writeAt, readBytes, readAt, savedBytes, savedAt, itemBytes, itemCount, headerOf, slotOf, decode, slot, logIn, objectsIn}
+use Rattle.model.specs.Entries.{checkpoint, Log, writesOf, stamps, astray, closed, decided, headerObjects, numberOf, earlier, named}
+use Rattle.model.specs.Slot.{headersBegin, headerSize, itemsBegin, distanceTo, headerWith, writeBytes, writeAt, readBytes, readAt, savedBytes, savedAt, itemBytes, itemCount, headerOf, slotOf, decode, slot, logIn, objectsIn, lastBytes}
 use Rattle.model.specs.Headers.{BackPointer, nothing, at as entryAt, past, formatAt, backsAt, dueFormat, dueBacks}
-use Rattle.model.specs.Rules.{okEntry, lowest, lowestBad, okWrite, okWrites, okRead, okReads, okSaved, narrow, goodAt, repeats}
+use Rattle.model.specs.Rules.{okEntry, lowest, lowestBad, okWrite, okWrites, okRead, okReads, okSaved, narrow, goodAt, repeats, okNames}
 use Rattle.model.specs.Directory.{recordSize, recordAt, okRecord, atFault, shapeOf, recordBytes, directoryOf, listedIn, faultOf}
 use Rattle.model.specs.Table.{Cell, cellSize, cellAt, cellBytes, cellsOf, tableWith, apply, savedOf, cellOf, lookup, inOrder, store}
-use Rattle.model.specs.Play.{play, commitsOver, step, waitsAt}
+use Rattle.model.specs.Play.{play, commitsOver, step, waitsAt, whole}
 use Rattle.model.specs.Answers.{Answer, done, refused, firstPlace, badFrame}
 use Rattle.model.specs.Reading.{check, badSets, owes, owed, entryCall, infoIn, itemList, streamNext, streamList, offsetsOf}
 use Rattle.model.specs.Append.{Replica, Request, update, commits, decides, saves, entryOf, ownTests, append}
@@ -39,13 +39,17 @@ remove o k = writeBytes (record { object = o; key = k; operation = 2; value = 0 
 abbrev pub read : ℕ → ℕ → ℕ → List ℕ
 read o k v = readBytes (record { object = o; key = k; version = v })
 
+-- a commit that names no number
+abbrev pub commitOf : ℕ → List ℕ → Request
+commitOf n reads = commits n reads 0 0
+
 -- the log that these appends leave in n slots of any bytes (here 7)
 abbrev pub logBy : ℕ → List Request → Lent
 logBy n qs = grown depots (empty (replicate (theLayout .slotSize * n) 7)) qs
 
 -- the bench log (16.1), with the read version of entry 3
 abbrev pub bench : ℕ → List Request
-bench v = update 0 (put 2 7 43) ∷ update 9 (put 2 7 42) ∷ update 10 (put 2 7 40) ∷ commits 9 (read 2 7 v) ∷ commits 10 (read 2 7 1) ∷ []
+bench v = update 0 (put 2 7 43) ∷ update 9 (put 2 7 42) ∷ update 10 (put 2 7 40) ∷ commitOf 9 (read 2 7 v) ∷ commitOf 10 (read 2 7 1) ∷ []
 
 -- a log whose entry at 0 is of object 2, and every other of object 1
 abbrev pub sparse : Log
@@ -184,7 +188,7 @@ allCalls sh =
     let log = inLog sh l in
     code (check sh log) ∷ code (owed sh log (0 ∷ [])) ∷ code (entryCall sh log 1) ∷ length (itemList sh log 0)
     ∷ code (streamNext sh log 0 0 .found) ∷ code (streamList sh log 0 [] .count)
-    ∷ code (append sh (l .bytes) (l .tail) (update 0 []) .newTail) ∷ code (append sh (l .bytes) (l .tail) (commits 0 []) .newTail)
+    ∷ code (append sh (l .bytes) (l .tail) (update 0 []) .newTail) ∷ code (append sh (l .bytes) (l .tail) (commitOf 0 []) .newTail)
     ∷ code (append sh (l .bytes) (l .tail) (decides 1 0) .newTail) ∷ code (append sh (l .bytes) (l .tail) (saves r [] 0) .newTail)
     ∷ code (openFresh sh 0) ∷ code (openAt sh log 1 [] .answer) ∷ code (playCall sh log r [] 3 .answer) ∷ code (readCell sh r [] 0 0)
     ∷ code (audit sh log [] .answer) ∷ []
@@ -211,7 +215,7 @@ rowHolds (due p qs f bs) = eqb (dueFormat p qs) f && sameBacks (dueBacks (theLay
 rowHolds (apart p q d) = eqb (distanceTo p q) d
 rowHolds (asks n qs number rs a i) =
     let l = logBy n qs in
-    let x = append depots (l .bytes) (l .tail) (commits number rs) .newTail in
+    let x = append depots (l .bytes) (l .tail) (commitOf number rs) .newTail in
     eqb (code x) a && sameOffset (tells x) i
 rowHolds (faulty d k) = sameOffset (shapeOf d .fault) k
 rowHolds (opens d set a) = eqb (code (openFresh (shapeOf d) set)) a
@@ -245,7 +249,7 @@ abbrev pub cell : ℕ → ℕ → Option ℕ → ℕ → Cell
 cell o k c v = cellOf o k (record { version = v; content = c })
 
 abbrev only5 : List Request
-only5 = update 9 (put 5 1 6) ∷ commits 9 (read 2 7 0) ∷ []
+only5 = update 9 (put 5 1 6) ∷ commitOf 9 (read 2 7 0) ∷ []
 
 abbrev pub rows : List Row
 rows =
@@ -262,7 +266,7 @@ rows =
     ∷ printed (bench 1) 48 (line 3 9 true ∷ line 4 10 false ∷ []) (cell 2 7 (some 42) 4 ∷ [])
     ∷ printed (bench 0) 48 (line 3 9 false ∷ line 4 10 true ∷ []) (cell 2 7 (some 40) 5 ∷ [])
     -- a removed cell's version; a read with version 0 is stale
-    ∷ printed (update 0 (put 2 7 43) ∷ update 0 (remove 2 7) ∷ update 9 (put 2 7 1) ∷ commits 9 (read 2 7 0) ∷ []) 48
+    ∷ printed (update 0 (put 2 7 43) ∷ update 0 (remove 2 7) ∷ update 9 (put 2 7 1) ∷ commitOf 9 (read 2 7 0) ∷ []) 48
     (line 3 9 false ∷ []) (cell 2 7 none 2 ∷ [])
     -- a read that is not hosted, without and with its decision record
     ∷ player only5 16 48 (stops 12 1 [])
@@ -275,13 +279,13 @@ rows =
     ∷ []
 
 pub worked : all rowHolds rows ≡ true
-unfolding rowHolds beAt bytesOf splice values joined first firstFrom eqList writesOf stamps astray closed decided headerObjects earlier writeBytes writeAt readBytes readAt savedBytes savedAt itemBytes itemCount headerOf slotOf decode slot logIn okEntry lowest lowestBad cellAt cellBytes cellsOf tableWith apply savedOf play commitsOver entryOf firstPlace ownTests append openFresh playCall audit outcomes report grown isObject isCell hosted okWrite okWrites okRead okReads okSaved narrow goodAt lookup inOrder store step badFrame objectsIn repeats
+unfolding rowHolds beAt bytesOf splice values joined first firstFrom eqList writesOf stamps astray closed decided headerObjects earlier writeBytes writeAt readBytes readAt savedBytes savedAt itemBytes itemCount headerOf slotOf lastBytes decode slot logIn okEntry lowest lowestBad cellAt cellBytes cellsOf tableWith apply savedOf play commitsOver whole named entryOf firstPlace ownTests append openFresh playCall audit outcomes report grown isObject isCell hosted okWrite okWrites okRead okReads okNames okSaved narrow goodAt lookup inOrder store step badFrame objectsIn repeats
 worked = refl
 
 -- ---- a table in cell order
 
 -- a record of the set at a position with so many counted cells
-abbrev at : ℕ → ℕ → ℕ → Replica
+abbrev pub at : ℕ → ℕ → ℕ → Replica
 at set p n = record { hosting = set; position = p; count = n }
 
 -- three updates of objects 2 and 5
@@ -292,14 +296,14 @@ abbrev only7 : List Request
 only7 = update 0 (put 2 7 4) ∷ []
 
 -- rows as stored
-abbrev tableOf : List Cell → List ℕ
+abbrev pub tableOf : List Cell → List ℕ
 tableOf cs = joined cellBytes cs
 
 abbrev plainCell : ℕ → ℕ → Cell
 plainCell o k = cell o k (some 4) 1
 
 -- a row that no player writes
-abbrev odd : ℕ → ℕ → Cell
+abbrev pub odd : ℕ → ℕ → Cell
 odd o k = record { object = o; key = k; value = 77; present = 9; version = 9223372036854775808 }
 
 -- ---- headers as they are read
@@ -352,7 +356,7 @@ later =
     -- a new cell among rows of objects that are not hosted or not listed
     ∷ goesOn only7 (at 2 0 3) (tableOf (odd 1 9 ∷ odd 2 8 ∷ odd 99 0 ∷ []) ++ lentTable 24) 0 (at 2 1 4) (tableOf (odd 1 9 ∷ cell 2 7 (some 4) 1 ∷ odd 2 8 ∷ odd 99 0 ∷ []))
     -- a cell written twice by one transaction takes one row
-    ∷ player (update 9 (put 2 7 1 ++ put 2 7 2) ∷ commits 9 [] ∷ []) 2 24 (ends 2 (cell 2 7 (some 2) 2 ∷ []))
+    ∷ player (update 9 (put 2 7 1 ++ put 2 7 2) ∷ commitOf 9 [] ∷ []) 2 24 (ends 2 (cell 2 7 (some 2) 2 ∷ []))
     -- 13 in the middle of rows that fill the table, and nothing moves
     ∷ goesOn only7 (at 2 0 2) (tableOf (odd 2 6 ∷ odd 2 8 ∷ [])) 13 (at 2 0 2) (tableOf (odd 2 6 ∷ odd 2 8 ∷ []))
     -- a play refused with 10 leaves all as it was
@@ -404,7 +408,7 @@ later =
     ∷ asks 6 (bench4 1) 10 (read 2 8 4) 16 (some 0)
     ∷ asks 6 (bench4 1) 10 (read 5 7 1) 16 (some 0)
     -- a remove, and the first and the last of two updates of one number
-    ∷ asks 6 (update 0 (put 2 1 1 ++ remove 2 7) ∷ update 9 (put 2 8 1) ∷ update 9 (put 2 9 1) ∷ commits 9 [] ∷ update 10 (put 2 7 1) ∷ []) 10
+    ∷ asks 6 (update 0 (put 2 1 1 ++ remove 2 7) ∷ update 9 (put 2 8 1) ∷ update 9 (put 2 9 1) ∷ commitOf 9 [] ∷ update 10 (put 2 7 1) ∷ []) 10
     (read 2 7 1 ++ read 2 8 4 ++ read 2 9 4) 0 none
     -- the first of the reads that are astray is told
     ∷ asks 6 (bench4 1) 10 (read 2 7 1 ++ read 2 8 3) 16 (some 1)
@@ -420,7 +424,7 @@ later =
     ∷ []
 
 pub later-worked : all rowHolds later ≡ true
-unfolding rowHolds beAt bytesOf splice values joined first firstFrom eqList writesOf stamps astray closed decided headerObjects earlier writeBytes writeAt readBytes readAt savedBytes savedAt itemBytes itemCount headerOf slotOf decode slot logIn okEntry lowest lowestBad cellAt cellBytes cellsOf tableWith apply savedOf play commitsOver entryOf firstPlace ownTests append openFresh playCall readCell audit outcomes report grown isObject isCell hosted okWrite okWrites okRead okReads okSaved narrow goodAt lookup inOrder store step badFrame objectsIn repeats backsAt check
+unfolding rowHolds beAt bytesOf splice values joined first firstFrom eqList writesOf stamps astray closed decided headerObjects earlier writeBytes writeAt readBytes readAt savedBytes savedAt itemBytes itemCount headerOf slotOf lastBytes decode slot logIn okEntry lowest lowestBad cellAt cellBytes cellsOf tableWith apply savedOf play commitsOver whole named entryOf firstPlace ownTests append openFresh playCall readCell audit outcomes report grown isObject isCell hosted okWrite okWrites okRead okReads okNames okSaved narrow goodAt lookup inOrder store step badFrame objectsIn repeats backsAt check
 later-worked = refl
 
 -- ---- directories
@@ -528,25 +532,25 @@ handedOver =
     ∷ []
 
 pub handed-over : all rowHolds handedOver ≡ true
-unfolding rowHolds beAt bytesOf splice values joined first firstFrom picks eqList writesOf stamps astray closed decided headerObjects earlier writeBytes writeAt readBytes readAt savedBytes savedAt itemBytes itemCount headerOf slotOf decode slot logIn okEntry lowest lowestBad recordAt okRecord atFault listedIn faultOf recordBytes directoryOf cellAt cellBytes cellsOf tableWith apply savedOf play commitsOver entryOf firstPlace ownTests append openFresh openAt playCall readCell audit grown isObject isCell hosted okWrite okWrites okRead okReads okSaved narrow goodAt lookup inOrder store step badFrame objectsIn repeats check waitsAt badSets owes owed entryCall infoIn itemList streamNext streamList offsetsOf
+unfolding rowHolds beAt bytesOf splice values joined first firstFrom picks eqList writesOf stamps astray closed decided headerObjects earlier writeBytes writeAt readBytes readAt savedBytes savedAt itemBytes itemCount headerOf slotOf lastBytes decode slot logIn okEntry lowest lowestBad recordAt okRecord atFault listedIn faultOf recordBytes directoryOf cellAt cellBytes cellsOf tableWith apply savedOf play commitsOver whole named entryOf firstPlace ownTests append openFresh openAt playCall readCell audit grown isObject isCell hosted okWrite okWrites okRead okReads okNames okSaved narrow goodAt lookup inOrder store step badFrame objectsIn repeats check waitsAt badSets owes owed entryCall infoIn itemList streamNext streamList offsetsOf
 handed-over = refl
 
 -- ---- decisions owed
 
 -- object 5 is written twice, by transactions that read objects 2 and 3
 abbrev two5 : List Request
-two5 = only5 ++ (update 10 (put 5 1 7) ∷ commits 10 (read 3 1 0) ∷ [])
+two5 = only5 ++ (update 10 (put 5 1 7) ∷ commitOf 10 (read 3 1 0) ∷ [])
 
 -- objects 2, 5 and 6 are written, by one that reads a cell of each object, and more of object 1
 abbrev reads8 : List Request
 reads8 =
     update 9 (put 2 7 1 ++ put 5 1 6 ++ put 6 0 1)
-    ∷ commits 9 (read 1 0 0 ++ read 1 1 0 ++ read 1 2 0 ++ read 1 3 0 ++ read 1 4 0 ++ read 2 7 0 ++ read 3 1 0 ++ read 4 1 0 ++ read 5 1 0 ++ read 6 0 0 ++ read 7 0 0 ++ read 8 0 0)
+    ∷ commitOf 9 (read 1 0 0 ++ read 1 1 0 ++ read 1 2 0 ++ read 1 3 0 ++ read 1 4 0 ++ read 2 7 0 ++ read 3 1 0 ++ read 4 1 0 ++ read 5 1 0 ++ read 6 0 0 ++ read 7 0 0 ++ read 8 0 0)
     ∷ []
 
 -- the clinics' last map is written, by one that reads the first
 abbrev last3 : List Request
-last3 = update 9 (put highestId 0 1) ∷ commits 9 (read 10 0 0) ∷ []
+last3 = update 9 (put highestId 0 1) ∷ commitOf 9 (read 10 0 0) ∷ []
 
 abbrev pub debts : List Row
 debts =
@@ -582,7 +586,7 @@ debts =
     -- one of three header objects is enough
     ∷ owing eight reads8 2 (16 ∷ []) 0 (some 1)
     -- a commit without reads
-    ∷ owing eight (update 9 (put 5 1 6) ∷ commits 9 [] ∷ []) 2 (16 ∷ []) 0 none
+    ∷ owing eight (update 9 (put 5 1 6) ∷ commitOf 9 [] ∷ []) 2 (16 ∷ []) 0 none
     -- sixteen sets and seventeen; an empty one; bits past the directory, in the first set and in the last
     ∷ owing eight only5 2 (replicate 16 16) 0 (some 1)
     ∷ owing eight only5 2 (replicate 17 16) 3 none
@@ -603,5 +607,5 @@ debts =
     ∷ []
 
 pub debts-worked : all rowHolds debts ≡ true
-unfolding rowHolds beAt bytesOf splice values joined first firstFrom picks eqList writesOf stamps astray closed decided headerObjects earlier writeBytes writeAt readBytes readAt savedBytes savedAt itemBytes itemCount headerOf slotOf decode slot logIn okEntry lowest lowestBad recordAt okRecord atFault listedIn faultOf recordBytes directoryOf cellAt cellBytes cellsOf tableWith apply savedOf play commitsOver entryOf firstPlace ownTests append openFresh openAt playCall readCell audit grown isObject isCell hosted okWrite okWrites okRead okReads okSaved narrow goodAt lookup inOrder store step badFrame objectsIn repeats check waitsAt badSets owes owed entryCall infoIn itemList streamNext streamList offsetsOf
+unfolding rowHolds beAt bytesOf splice values joined first firstFrom picks eqList writesOf stamps astray closed decided headerObjects earlier writeBytes writeAt readBytes readAt savedBytes savedAt itemBytes itemCount headerOf slotOf lastBytes decode slot logIn okEntry lowest lowestBad recordAt okRecord atFault listedIn faultOf recordBytes directoryOf cellAt cellBytes cellsOf tableWith apply savedOf play commitsOver whole named entryOf firstPlace ownTests append openFresh openAt playCall readCell audit grown isObject isCell hosted okWrite okWrites okRead okReads okNames okSaved narrow goodAt lookup inOrder store step badFrame objectsIn repeats check waitsAt badSets owes owed entryCall infoIn itemList streamNext streamList offsetsOf
 debts-worked = refl
