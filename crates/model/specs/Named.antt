@@ -16,7 +16,7 @@ use Rattle.lists.specs.Equal.{eqList}
 use Rattle.lists.specs.Sets.{all}
 use Rattle.model.specs.Objects.{aMap, theLayout, depots, isObject, isCell, hosted}
 use Rattle.model.specs.Entries.{writesOf, stamps, astray, closed, decided, headerObjects, earlier, named}
-use Rattle.model.specs.Slot.{writeBytes, writeAt, readBytes, readAt, savedBytes, savedAt, itemBytes, itemCount, headerOf, slotOf, decode, slot, logIn, objectsIn, lastBytes, lastBegin}
+use Rattle.model.specs.Slot.{writeBytes, writeAt, readBytes, readAt, savedBytes, savedAt, itemBytes, itemCount, headerOf, slotOf, decode, slot, logIn, objectsIn, lastBytes, lastBegin, twoNumbers}
 use Rattle.model.specs.Rules.{okEntry, lowest, lowestBad, okWrite, okWrites, okRead, okReads, okSaved, narrow, goodAt, repeats, okNames}
 use Rattle.model.specs.Directory.{recordAt, okRecord, atFault, recordBytes, directoryOf, listedIn, faultOf}
 use Rattle.model.specs.Table.{Cell, cellAt, cellBytes, cellsOf, tableWith, apply, savedOf, lookup, inOrder, store}
@@ -53,10 +53,6 @@ four2 v = cell 4 2 (some 1) v
 -- where the last eight bytes of the entry at p begin
 abbrev pub lastIn : ℕ → ℕ
 lastIn p = theLayout .slotSize * p + lastBegin theLayout
-
--- the two numbers as they are stored
-abbrev pub two : ℕ → ℕ → List ℕ
-two a b = bytesOf 4 a ++ bytesOf 4 b
 
 -- what a commit of 10 that names these is answered, and what the check answers of the same in the slot at 3
 abbrev asked : ℕ → ℕ → ℕ → Row
@@ -118,13 +114,13 @@ following =
     ∷ asked 4294967296 0 3
     ∷ asked 9 4294967296 3
     ∷ asked 4294967294 4294967295 0
-    ∷ spoilt ordered (lastIn 3) (two 0 0) 0 none
-    ∷ spoilt ordered (lastIn 3) (two 9 11) 0 none
-    ∷ spoilt ordered (lastIn 3) (two 0 9) 2 (some 3)
-    ∷ spoilt ordered (lastIn 3) (two 9 9) 2 (some 3)
-    ∷ spoilt ordered (lastIn 3) (two 11 9) 2 (some 3)
-    ∷ spoilt ordered (lastIn 3) (two 10 0) 2 (some 3)
-    ∷ spoilt ordered (lastIn 3) (two 9 10) 2 (some 3)
+    ∷ spoilt ordered (lastIn 3) (twoNumbers 0 0) 0 none
+    ∷ spoilt ordered (lastIn 3) (twoNumbers 9 11) 0 none
+    ∷ spoilt ordered (lastIn 3) (twoNumbers 0 9) 2 (some 3)
+    ∷ spoilt ordered (lastIn 3) (twoNumbers 9 9) 2 (some 3)
+    ∷ spoilt ordered (lastIn 3) (twoNumbers 11 9) 2 (some 3)
+    ∷ spoilt ordered (lastIn 3) (twoNumbers 10 0) 2 (some 3)
+    ∷ spoilt ordered (lastIn 3) (twoNumbers 9 10) 2 (some 3)
     -- bad names come before a closed number
     ∷ handed eight ordered (commits 9 [] 9 0) 3
     ∷ handed eight ordered (commits 9 [] 8 0) 4
