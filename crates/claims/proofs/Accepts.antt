@@ -15,10 +15,10 @@ use Rattle.lists.specs.Sets.{all, isEmpty, mem}
 use Rattle.model.specs.Objects.{Shape, isObject, hosted}
 use Rattle.model.specs.Entries.{Write, Condition, Commit, commit, Log, commitAt, astray, writesOf, closed, decided, isNone}
 use Rattle.model.specs.Slot.{writeAt, readAt, logIn, okShape}
-use Rattle.model.specs.Rules.{fits, okWrites, narrow, okReads, okSaved, okOutcome, okNumber, lowestBad}
+use Rattle.model.specs.Rules.{fits, okWrites, narrow, okReads, okSaved, okOutcome, okNumber, lowestBad, okNames}
 use Rattle.model.specs.Table.{Cell, cellsOf, inOrder, capacity}
 use Rattle.model.specs.Answers.{Refusal, refuse, refuseAt, firstPlace, firstOf, slots, badFrame, frameAndEntries}
-use Rattle.model.specs.Append.{Replica, Request, update, commits, decides, saves, writesGiven, conditionGiven, savedGiven, notWhole, badReplica, ifNumbered, ownTests, appendRefusal}
+use Rattle.model.specs.Append.{Replica, Request, update, commits, decides, saves, writesGiven, conditionGiven, savedGiven, notWhole, badReplica, ifNumbered, ownTests, appendRefusal, readsGiven}
 use Rattle.model.specs.Histories.{Lent, inLog, isRefused, Accepted}
 use Rattle.model.specs.Terms.{SetAside, Committed, UpdateAllowed, CommitAsked, CommitAllowed, DecisionAllowed, CheckpointAllowed, Allowed, Unstopped}
 use Rattle.model.specs.Claims.{AcceptsExactly}
@@ -30,6 +30,7 @@ use Rattle.laws.proofs.Places.{no-place, place-none}
 use Rattle.laws.proofs.Decisions.{commit-entry}
 use Rattle.claims.proofs.Terms.{frame-words, words-frame, order-words, words-order, writes-aside, aside-writes, closed-words, words-closed, undecided-words, words-undecided}
 use Rattle.claims.proofs.Stamps.{pointed-words, words-pointed}
+use Rattle.claims.proofs.Names.{names-words, words-names}
 use Rattle.claims.proofs.Words.{whole-words, words-whole, numbered-if, if-numbered, writes-words, words-writes, narrow-words, words-narrow, reads-words, words-reads, cells-words, words-cells, keys-words, words-keys}
 
 -- ---- tests that pass
@@ -110,12 +111,13 @@ module _ (sh : Shape) (log : Log) where
   write-some (v ∷ ws) w m = refl
 
   -- the tests of a commit before 16
-  abbrev pub badCommit : ℕ → List ℕ → Bool
-  badCommit n items = notWhole items || not (okReads sh (log .tail) (conditionGiven items .reads)) || not (okNumber n)
+  abbrev pub badCommit : ℕ → List ℕ → ℕ → ℕ → Bool
+  badCommit n items a b = notWhole items || not (okReads sh (log .tail) (readsGiven items)) || not (okNumber n) || not (okNames n (conditionGiven items a b))
 
-  pub asked-words : (n : ℕ) (items : List ℕ) → badCommit n items ≡ false → closed log n (log .tail) ≡ false → isEmpty (writesOf log n (log .tail)) ≡ false → CommitAsked sh log n items
-  asked-words n items given still-open some-writes =
-      let r = reads-words sh (log .tail) (conditionGiven items .reads) (not-false _ (search (ors, given))) in
+  pub asked-words : (n : ℕ) (items : List ℕ) (a b : ℕ) → badCommit n items a b ≡ false → closed log n (log .tail) ≡ false → isEmpty (writesOf log n (log .tail)) ≡ false
+      → CommitAsked sh log n (conditionGiven items a b) items
+  asked-words n items a b given still-open some-writes =
+      let r = reads-words sh (log .tail) (readsGiven items) (not-false _ (search (ors, given))) in
       let number : okNumber n ≡ true = not-false _ (search (ors, given)) in
       let some : n ≡ 0 → ⊥ = eqb-false n 0 (not-true _ (search ands)) in
       let (w, m) = some-write (writesOf log n (log .tail)) some-writes in
@@ -125,39 +127,41 @@ module _ (sh : Shape) (log : Log) where
         few = r .0;
         each = r .1;
         ascend = r .2;
+        names = names-words n (conditionGiven items a b) (not-false _ (search (ors, given)));
         uncommitted = open-words log n still-open;
         updated = (w, writes-aside log n (log .tail) w m);
       }
 
-  pub words-asked : (n : ℕ) (items : List ℕ) → CommitAsked sh log n items
-      → (badCommit n items ≡ false) × (closed log n (log .tail) ≡ false) × (isEmpty (writesOf log n (log .tail)) ≡ false)
-  words-asked n items a = (given, words-open log n (a .uncommitted), updated)
+  pub words-asked : (n : ℕ) (items : List ℕ) (c d : ℕ) → CommitAsked sh log n (conditionGiven items c d) items
+      → (badCommit n items c d ≡ false) × (closed log n (log .tail) ≡ false) × (isEmpty (writesOf log n (log .tail)) ≡ false)
+  words-asked n items c d a = (given, words-open log n (a .uncommitted), updated)
     where
       some : n ≡ 0 → ⊥
       some = omega (arith, a .number .0)
 
-      given : badCommit n items ≡ false
+      given : badCommit n items c d ≡ false
       given =
-          neither (neither (words-whole readAt items (a .whole)) (ap not (words-reads sh (log .tail) (conditionGiven items .reads) (a .few) (a .each) (a .ascend))))
-          (ap not (both (ap not (ne-eqb n 0 some)) (lt-ltb n (256 ^ 4) (a .number .1))))
+          neither (neither (neither (words-whole readAt items (a .whole)) (ap not (words-reads sh (log .tail) (readsGiven items) (a .few) (a .each) (a .ascend))))
+          (ap not (both (ap not (ne-eqb n 0 some)) (lt-ltb n (256 ^ 4) (a .number .1)))))
+          (ap not (words-names n (conditionGiven items c d) (a .names)))
 
       updated : isEmpty (writesOf log n (log .tail)) ≡ false
       updated = let (w, s) = a .updated in write-some (writesOf log n (log .tail)) w (aside-writes log n (log .tail) w s)
 
-  commit-words : (n : ℕ) (items : List ℕ) → AllPass (ownTests sh log (commits n items)) → CommitAllowed sh log n items
+  commit-words : (n : ℕ) (items : List ℕ) (a b : ℕ) → AllPass (ownTests sh log (commits n items a b)) → CommitAllowed sh log n (conditionGiven items a b) items
   unfolding ownTests
-  commit-words n items t =
-      let found = refuseAt-none 16 (firstPlace (astray log) (conditionGiven items .reads)) (t .1 .1 .1 .0) in
+  commit-words n items a b t =
+      let found = refuseAt-none 16 (firstPlace (astray log) (readsGiven items)) (t .1 .1 .1 .0) in
       record {
-        asked = asked-words n items (refuse-none 3 _ (t .0)) (refuse-none 4 _ (t .1 .0)) (refuse-none 6 _ (t .1 .1 .0));
-        pointed = λ x m. pointed-words log x (no-place (astray log) (conditionGiven items .reads) found x m);
+        asked = asked-words n items a b (refuse-none 3 _ (t .0)) (refuse-none 4 _ (t .1 .0)) (refuse-none 6 _ (t .1 .1 .0));
+        pointed = λ x m. pointed-words log x (no-place (astray log) (readsGiven items) found x m);
       }
 
-  words-commit : (n : ℕ) (items : List ℕ) → CommitAllowed sh log n items → log .tail < slots sh.layout log → AllPass (ownTests sh log (commits n items))
+  words-commit : (n : ℕ) (items : List ℕ) (c d : ℕ) → CommitAllowed sh log n (conditionGiven items c d) items → log .tail < slots sh.layout log → AllPass (ownTests sh log (commits n items c d))
   unfolding ownTests
-  words-commit n items a free =
-      let (given, still-open, updated) = words-asked n items (a .asked) in
-      let found : firstPlace (astray log) (conditionGiven items .reads) ≡ none = place-none (astray log) (conditionGiven items .reads) (λ x m. words-pointed log x (a .pointed x m)) in
+  words-commit n items c d a free =
+      let (given, still-open, updated) = words-asked n items c d (a .asked) in
+      let found : firstPlace (astray log) (readsGiven items) ≡ none = place-none (astray log) (readsGiven items) (λ x m. words-pointed log x (a .pointed x m)) in
       (passing 3 _ given, (passing 4 _ still-open, (passing 6 _ updated, (ap (refuseAt 16) found, (passing 9 _ (lt-leb (slots sh.layout log) (log .tail) free), tt)))))
 
   -- a commit record at an offset
@@ -246,13 +250,13 @@ module _ (sh : Shape) (log : Log) where
 
   own-words : (q : Request) → AllPass (ownTests sh log q) → Allowed sh log q
   own-words (update n items) t = update-words n items t
-  own-words (commits n items) t = commit-words n items t
+  own-words (commits n items a b) t = commit-words n items a b t
   own-words (decides o v) t = decision-words o v t
   own-words (saves r table o) t = checkpoint-words r table o t
 
   words-own : (q : Request) → Allowed sh log q → log .tail < slots sh.layout log → AllPass (ownTests sh log q)
   words-own (update n items) a free = words-update n items a free
-  words-own (commits n items) a free = words-commit n items a free
+  words-own (commits n items c d) a free = words-commit n items c d a free
   words-own (decides o v) a free = words-decision o v a free
   words-own (saves r table o) a free = words-checkpoint r table o a free
 

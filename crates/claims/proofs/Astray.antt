@@ -16,7 +16,7 @@ use Rattle.model.specs.Slot.{logIn, okShape}
 use Rattle.model.specs.Table.{versionIn}
 use Rattle.model.specs.Rules.{lowestBad}
 use Rattle.model.specs.Answers.{Refusal, Answer, done, refused, refuse, refuseAt, firstPlace, firstOf, slots, badFrame}
-use Rattle.model.specs.Append.{Request, commits, conditionGiven, ownTests, appendRefusal, appendGiven, append}
+use Rattle.model.specs.Append.{Request, commits, ownTests, appendRefusal, appendGiven, append, readsGiven}
 use Rattle.model.specs.Histories.{Lent, inLog, appendTo, grown, empty, History, wholeLog, stood, Carried, plays}
 use Rattle.model.specs.ReadClaims.{FirstAstray, TellsAstray, AstrayNone, ShownPasses, readOf}
 use Rattle.model.specs.Terms.{Pointed}
@@ -98,66 +98,66 @@ module _ (sh : Shape) (l : Lent) (q : Request) where
       go (done t) i = not-none r (sym i)
       go (refused x) i = ap (λ (y : Option Refusal). ifSome y (refused r) (λ z. refused z)) i
 
-module _ (sh : Shape) (shape : okShape sh ≡ true) (l : Lent) (n : ℕ) (items : List ℕ) (i : ℕ) where
+module _ (sh : Shape) (shape : okShape sh ≡ true) (l : Lent) (n : ℕ) (items : List ℕ) (a b i : ℕ) where
   abbrev log : Log
   log = inLog sh l
 
   abbrev reads : List Read
-  reads = conditionGiven items .reads
+  reads = readsGiven items
 
-  first-astray : appendTo sh l (commits n items) .newTail ≡ refused (telling i) → FirstAstray sh l n items i
+  first-astray : appendTo sh l (commits n items a b) .newTail ≡ refused (telling i) → FirstAstray sh l n items a b i
   unfolding ownTests
   first-astray e =
-      let f = sixteen (sh .fault) (badFrame sh.layout log) (lowestBad sh log) (badCommit sh log n items) (closed log n (log .tail)) (isEmpty (writesOf log n (log .tail)))
-      (firstPlace (astray log) reads) (leb (slots sh.layout log) (log .tail)) i (refused-so sh l (commits n items) (telling i) e) in
-      let a : First (astray log) reads i = place-first (astray log) reads i (f .astray-at) in
+      let f = sixteen (sh .fault) (badFrame sh.layout log) (lowestBad sh log) (badCommit sh log n items a b) (closed log n (log .tail)) (isEmpty (writesOf log n (log .tail)))
+      (firstPlace (astray log) reads) (leb (slots sh.layout log) (log .tail)) i (refused-so sh l (commits n items a b) (telling i) e) in
+      let p : First (astray log) reads i = place-first (astray log) reads i (f .astray-at) in
       record {
         directed = f .directed;
         framed = frame-words sh l (f .framed);
         good = good-below sh log (f .good);
-        asked = asked-words sh log n items (f .asked) (f .still-open) (f .updated);
-        before = a .before;
-        read = a .here;
-        rest = a .rest;
-        reads = a .parts;
-        place = a .place;
-        others = λ x m. pointed-words log x (a .fails x m);
-        astray = λ p. clash (astray log (a .here)) (a .passes) (words-pointed log (a .here) p);
+        asked = asked-words sh log n items a b (f .asked) (f .still-open) (f .updated);
+        before = p .before;
+        read = p .here;
+        rest = p .rest;
+        reads = p .parts;
+        place = p .place;
+        others = λ x m. pointed-words log x (p .fails x m);
+        astray = λ w. clash (astray log (p .here)) (p .passes) (words-pointed log (p .here) w);
       }
 
-  astray-first : FirstAstray sh l n items i → appendTo sh l (commits n items) .newTail ≡ refused (telling i)
+  astray-first : FirstAstray sh l n items a b i → appendTo sh l (commits n items a b) .newTail ≡ refused (telling i)
   unfolding ownTests
-  astray-first a =
-      let w = words-asked sh log n items (a .asked) in
-      let hit : astray log (a .read) ≡ true = bad (astray log (a .read)) refl in
+  astray-first f =
+      let w = words-asked sh log n items a b (f .asked) in
+      let hit : astray log (f .read) ≡ true = bad (astray log (f .read)) refl in
       let found : firstPlace (astray log) reads ≡ some i =
-      ap (firstPlace (astray log)) (a .reads) ∙ first-place (astray log) (a .before) (a .read) (a .rest) (λ x m. words-pointed log x (a .others x m)) hit ∙ ap some (a .place) in
-      so-refused sh l (commits n items) (telling i) (sixteen-so _ _ _ _ _ _ _ (leb (slots sh.layout log) (log .tail)) i (record {
-        directed = a .directed;
-        framed = words-frame sh shape l (a .framed);
-        good = below-good sh log (a .good);
+      ap (firstPlace (astray log)) (f .reads) ∙ first-place (astray log) (f .before) (f .read) (f .rest) (λ x m. words-pointed log x (f .others x m)) hit ∙ ap some (f .place) in
+      so-refused sh l (commits n items a b) (telling i) (sixteen-so _ _ _ _ _ _ _ (leb (slots sh.layout log) (log .tail)) i (record {
+        directed = f .directed;
+        framed = words-frame sh shape l (f .framed);
+        good = below-good sh log (f .good);
         asked = w .0;
         still-open = w .1;
         updated = w .2;
         astray-at = found;
       }))
     where
-      bad : (b : Bool) → astray log (a .read) ≡ b → b ≡ true
+      bad : (b : Bool) → astray log (f .read) ≡ b → b ≡ true
       bad true e = refl
-      bad false e = absurd (a .astray (pointed-words log (a .read) e))
+      bad false e = absurd (f .astray (pointed-words log (f .read) e))
 
 pub tells-astray : (sh : Shape) → okShape sh ≡ true → TellsAstray sh
-tells-astray sh shape l n items i = (first-astray sh shape l n items i, astray-first sh shape l n items i)
+tells-astray sh shape l n items a b i = (first-astray sh shape l n items a b i, astray-first sh shape l n items a b i)
 
 -- ---- an accepted commit has none
 
 pub astray-none : (sh : Shape) → okShape sh ≡ true → AstrayNone sh
 unfolding logIn grown
-astray-none sh shape l n items taken later x m =
-    let q : Request = commits n items in
-    let a = accepts-exactly sh shape l q .0 taken .allowed in
+astray-none sh shape l n items a b taken later x m =
+    let q : Request = commits n items a b in
+    let w = accepts-exactly sh shape l q .0 taken .allowed in
     let up : Longer sh l (grown sh l (q ∷ later)) = grown-longer sh shape l (q ∷ later) in
-    pointed-on (inLog sh l) (inLog sh (grown sh l (q ∷ later))) (l .tail) x (up .agrees) (a .asked .each x m .1) (a .pointed x m)
+    pointed-on (inLog sh l) (inLog sh (grown sh l (q ∷ later))) (l .tail) x (up .agrees) (w .asked .each x m .1) (w .pointed x m)
 
 -- ---- what a replica shows has none
 

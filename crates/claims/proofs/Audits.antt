@@ -2,24 +2,24 @@
 -- what the run's cells hold. The audit hosts everything, so it needs no decision record, and its cells are the run's.
 use Prim.Native.Nat.{ℕ, zero, suc, _+_, _-_, _<_, _≤_}
 use mathlib.Core.Path.{_≡_, refl, ap, _∙_}
-use mathlib.Core.Bool.{Bool, true, false, not}
-use mathlib.Core.List.{List, [], _∷_}
+use mathlib.Core.Bool.{Bool, true, false, not, _||_}
+use mathlib.Core.List.{List, [], _∷_, map}
 use mathlib.Core.Option.{Option, none, some}
 use native.Mathlib.Omega.{arith}
 use native.Mathlib.Nat.{add-suc, add-zero}
 use borrow.Author.Tests.{ltb-true, ltb-false, not-false}
 use lib.Dec.{eqb, ltb}
-use Rattle.lists.specs.Tests.{and-r, ands, ors, both, beq-true, clash}
-use Rattle.lists.specs.Sets.{all, within}
+use Rattle.lists.specs.Tests.{and-l, and-r, ands, ors, both, beq-true, clash}
+use Rattle.lists.specs.Sets.{all, isEmpty, within}
 use Rattle.model.specs.Slot.{mostSlots, okShape}
 use Rattle.model.specs.Objects.{Shape, ids, isCell, everything}
-use Rattle.model.specs.Entries.{Decision, Write, Read, Condition, Entry, plain, numbered, commit, decision, checkpoint, blank, Effect, writes, aside, tries, inert, effect, Log, commitIn, ifSome, readObjects}
+use Rattle.model.specs.Entries.{Decision, Write, Read, Condition, Entry, plain, numbered, commit, decision, checkpoint, blank, Effect, writes, aside, tries, inert, effect, Log, commitIn, ifSome, readObjects, named}
 use Rattle.model.specs.Rules.{okWrite, okWrites, okRead, okReads, okEntry, lowestBad}
 use Rattle.model.specs.Table.{Cell, lookup, capacity}
-use Rattle.model.specs.Play.{Played, going, waits, lacks, cellsIn, alone, commitsOver, step, andThen, play}
+use Rattle.model.specs.Play.{Played, going, waits, lacks, cellsIn, alone, commitsOver, whole, step, andThen, play}
 use Rattle.model.specs.Answers.{Refusal, done, answer, firstOf, slots, badFrame, frameAndEntries}
 use Rattle.model.specs.Replica.{auditPlay, commitsThere, asPlayed, lowestFalse, auditGiven, audit}
-use Rattle.model.specs.Run.{current}
+use Rattle.model.specs.Run.{commitsNow}
 use Rattle.model.specs.Histories.{isRefused}
 use Rattle.laws.proofs.Items.{cell-object}
 use Rattle.laws.proofs.Refusals.{all-pass, refuse-none, refuseAt-none, lowest-none}
@@ -27,7 +27,8 @@ use Rattle.laws.proofs.Slots.{Kept, writes-ok}
 use Rattle.laws.proofs.Appends.{good-kept, frame-few}
 use Rattle.claims.proofs.Cells.{Shown}
 use Rattle.claims.proofs.Runs.{run, commitsAt}
-use Rattle.claims.proofs.Steps.{start-shown, reads-same, TrueBelow, Trust, Placed, Ok, play-ok}
+use Rattle.claims.proofs.Names.{every-alone}
+use Rattle.claims.proofs.Steps.{start-shown, commits-run, TrueBelow, Trust, Placed, Ok, play-ok}
 
 -- ---- what a pass says
 
@@ -70,7 +71,7 @@ audit-passed sh log scratch h =
 -- ---- what the rules say of writes and reads
 
 -- every object read is in the directory
-reads-within : (sh : Shape) (p : ℕ) (rs : List Read) → all (okRead sh p) rs ≡ true → within (ids sh) (readObjects (record { reads = rs })) ≡ true
+reads-within : (sh : Shape) (p : ℕ) (rs : List Read) → all (okRead sh p) rs ≡ true → within (ids sh) (map (λ (r : Read). r .object) rs) ≡ true
 unfolding okRead isCell
 reads-within sh p [] h = refl
 reads-within sh p (r ∷ rs) h =
@@ -93,7 +94,7 @@ module _ (sh : Shape) (log : Log) (tail : ℕ) (kept : Kept sh log tail) where
       now ws (checkpoint o cs) k q = clash true refl (cc)
       now ws blank k q = clash true refl (cc)
 
-  -- a commit record's reads are all hosted by the audit
+  -- the audit hosts all that a commit record reads, and every object
   pub hosted-reads : (p n : ℕ) (c : Condition) → p < tail → effect (log .entry p) ≡ tries n c → alone sh (ids sh) c ≡ true
   unfolding okEntry okReads
   hosted-reads p n c l e = go (log .entry p) (kept p l) e
@@ -102,7 +103,7 @@ module _ (sh : Shape) (log : Log) (tail : ℕ) (kept : Kept sh log tail) where
       go (commit m d) k i =
           let r : all (okRead sh p) (d .reads) ≡ true = search ands in
           let s : d ≡ c = cc in
-          rw (← s) (reads-within sh p (d .reads) r)
+          rw (← s) (every-alone sh d (reads-within sh p (d .reads) r))
       go (plain us) k i = clash true refl (cc)
       go (numbered m us) k i = clash true refl (cc)
       go (decision r) k i = clash true refl (cc)
@@ -159,10 +160,12 @@ module _ (sh : Shape) (shape : okShape sh ≡ true) (log : Log) (room : ℕ) (fr
   commits-same o l g = go (effect (log .entry o)) refl
     where
       go : (e : Effect) → effect (log .entry o) ≡ e
-          → ifSome (commitIn e) false (λ c. commitsOver (lookup (cellsIn (auditPlay sh log room o))) (c .condition)) ≡ ifSome (commitIn e) false (λ c. current (run log o .cells) (c .condition .reads))
+          → ifSome (commitIn e) false (λ c. commitsOver (lookup (cellsIn (auditPlay sh log room o))) (whole log o .won) (c .condition)) ≡ ifSome (commitIn e) false (λ c. commitsNow (run log o) (c .condition))
       go (writes ws) e = refl
       go (aside n ws) e = refl
-      go (tries n c) e = reads-same sh (ids sh) (c .reads) (cellsIn (auditPlay sh log room o)) (run log o .cells) (played-shows o (omega arith) g) (hosted-reads sh log (log .tail) kept o n c l e)
+      go (tries n c) e =
+          commits-run sh log (ids sh) o (cellsIn (auditPlay sh log room o)) c (played-shows o (omega arith) g)
+          (and-l (within (ids sh) (readObjects c)) (isEmpty (named c) || within (ids sh) (ids sh)) (hosted-reads sh log (log .tail) kept o n c l e))
       go inert e = refl
 
 -- a decision record names a commit record below it

@@ -10,6 +10,7 @@ use Rattle.claims.proofs.KeepsGood.{keeps-good}
 use Rattle.claims.proofs.ReadBack.{writes-one-slot, reads-back}
 use Rattle.claims.proofs.SameBytes.{same-bytes}
 use Rattle.claims.proofs.Aborts.{run-aborts}
+use Rattle.claims.proofs.Whole.{won-exactly}
 use Rattle.claims.proofs.Across.{replica-aborts}
 use Rattle.claims.proofs.Outcomes.{same-outcomes}
 
@@ -21,6 +22,7 @@ demand2 sh shape = record {
   readsBack = reads-back sh shape;
   sameBytes = same-bytes sh shape;
   runAborts = run-aborts;
+  wonExactly = won-exactly;
   replicaAborts = replica-aborts sh shape;
   sameOutcomes = same-outcomes sh shape;
 }

@@ -9,15 +9,15 @@ use native.Mathlib.Omega.{arith}
 use borrow.Author.Tests.{eqb-true, le-ltb}
 use lib.Dec.{eqb}
 use Rattle.lists.specs.Tests.{and-l, neither, clash}
-use Rattle.lists.specs.Sets.{mem}
+use Rattle.lists.specs.Sets.{all, mem}
 use Rattle.model.specs.Objects.{Shape, isCell, hosted, everything}
-use Rattle.model.specs.Entries.{Read, Held, Condition, Log}
+use Rattle.model.specs.Entries.{Read, Held, Condition, Log, named}
 use Rattle.model.specs.Slot.{logIn, okShape}
 use Rattle.model.specs.Table.{cellsOf, capacity, lookup, versionIn}
 use Rattle.model.specs.Answers.{done, refuse, refuseAt, firstOf, answer}
 use Rattle.model.specs.Append.{Request, commits, conditionGiven, badRecord}
 use Rattle.model.specs.Replica.{plainly, readCell}
-use Rattle.model.specs.Run.{current}
+use Rattle.model.specs.Run.{Run, current}
 use Rattle.model.specs.Histories.{Lent, Accepted, grown, empty, isRefused, inLog, History, wholeLog, stood, ranTo, Passed, Carried, carried, Opening, fresh, atCheckpoint, opened, Play, played, plays, hosts, shown, cellsWritten}
 use Rattle.model.specs.Terms.{Fit, Playable}
 use Rattle.model.specs.Claims.{Shows, Demand3}
@@ -25,7 +25,7 @@ use Rattle.laws.proofs.Tables.{length-cells}
 use Rattle.laws.proofs.Refusals.{good-below}
 use Rattle.claims.proofs.Cells.{how-many}
 use Rattle.claims.proofs.Runs.{run, same-version}
-use Rattle.claims.proofs.Aborts.{current-at, none-stale}
+use Rattle.claims.proofs.Aborts.{current-at, goes-through}
 use Rattle.claims.proofs.Audits.{Sound, audit-passed}
 use Rattle.claims.proofs.Openings.{hosted-none}
 use Rattle.claims.proofs.Histories.{grown-append, accepted-below, run-at, Stood, stood-so}
@@ -130,13 +130,15 @@ module _ (sh : Shape) (shape : okShape sh ≡ true) (h : History) (room : ℕ) (
       cells = λ o k m c. read-done sh (whole sh h) r g o k m c ∙ ap (λ s. done (s .cells o k)) (sym position);
       count = sym (length-cells (r .table) (r .replica .count)) ∙ how-many sh shape (hosts sh r) (cellsOf (r .table) (r .replica .count)) (run (whole sh h) (r .replica .position) .cells) (g .inv)
           ∙ ap (λ s. cellsWritten (sh .objects) (hosts sh r) (s .cells)) (sym position);
-      waits = λ p. refit _ _ (at sh h p) (hosts sh r) (r .replica .position) (p .stop) (played sh h r p) (λ f. f .fit) (fit-playable p)
+      waits = λ p. refit sh _ _ (at sh h p) (hosts sh r) (r .replica .position) (p .stop) (played sh h r p) (λ f. f .fit) (fit-playable p)
           (play-leaves sh shape (stood sh h (p .stoodAfter)) r (p .stop) .waits);
       ends = λ p. let w = play-leaves sh shape (stood sh h (p .stoodAfter)) r (p .stop) .ends in ((λ x. w .0 x .fit), (λ f. w .1 (fit-playable p f)));
       lacks = lacking;
-      rereads = λ before later n items e taken fresh x held m i v.
+      rereads = λ before later n items a b e taken through x held m i v.
           let l : Lent = grown sh (empty (h .bytes)) before in
-          reread (l .tail) (conditionGiven items) x held (turn-below before later (commits n items) e taken) (none-stale (ranTo sh h (l .tail) .cells) (conditionGiven items) fresh) m i v;
+          let s : Run = ranTo sh h (l .tail) in
+          let c : Condition = conditionGiven items a b in
+          reread (l .tail) c x held (turn-below before later (commits n items a b) e taken) (and-l (current (s .cells) (c .reads)) (all (s .won) (named c)) (goes-through s c through)) m i v;
     }
 
 -- what holds of a replica after its plays

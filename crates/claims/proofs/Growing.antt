@@ -13,7 +13,7 @@ use Rattle.lists.specs.Sets.{mem}
 use Rattle.model.specs.Objects.{Object}
 use Rattle.model.specs.Entries.{Write, Held, Effect, writes, aside, tries, inert, effect, Log, isNone}
 use Rattle.model.specs.Table.{Holds}
-use Rattle.model.specs.Run.{Run, current, written, madeAll}
+use Rattle.model.specs.Run.{Run, written, madeAll, commitsNow}
 use Rattle.model.specs.Histories.{keysWritten, cellsWritten}
 use Rattle.claims.proofs.Runs.{cellsAfter, run, cells-run}
 
@@ -34,7 +34,7 @@ made-keeps v (w ∷ ws) cells o k h = go (eqb w.object o && eqb w.key k) _ (made
 step-keeps : (v : ℕ) (s : Run) (e : Effect) → Keeps (s .cells) (cellsAfter v s e)
 step-keeps v s (writes ws) o k h = made-keeps v ws (s .cells) o k h
 step-keeps v s (aside n ws) o k h = h
-step-keeps v s (tries n c) o k h = go (current (s .cells) (c .reads)) h
+step-keeps v s (tries n c) o k h = go (commitsNow s c) h
   where
     go : (b : Bool) → isNone (cond b (madeAll v (s .aside n) (s .cells)) (s .cells) o k) ≡ true → isNone (s .cells o k) ≡ true
     go true e = made-keeps v (s .aside n) (s .cells) o k e

@@ -3,7 +3,7 @@
 -- that is not 15 (`AuditsExactly`, `OpensWherever`) has the premise that there is no fault.
 use Prim.Native.Nat.{ℕ}
 use mathlib.Core.Path.{_≡_, refl, ap, sym, subst, _∙_}
-use mathlib.Core.Bool.{true}
+use mathlib.Core.Bool.{Bool, true, false, cond}
 use mathlib.Core.List.{List, [], _∷_}
 use mathlib.Core.Option.{Option, none, some}
 use native.Mathlib.Omega.{arith}
@@ -14,11 +14,13 @@ use Rattle.model.specs.Entries.{Log}
 use Rattle.model.specs.Slot.{logIn, okShape}
 use Rattle.model.specs.Rules.{lowestBad}
 use Rattle.model.specs.Directory.{shapeOf, listedIn, faultOf}
-use Rattle.model.specs.Table.{cellsOf, tableWith, capacity}
+use Rattle.model.specs.Table.{cellsOf, tableWith, lookup, capacity}
+use Rattle.model.specs.Play.{whole}
 use Rattle.model.specs.Answers.{refused}
 use Rattle.model.specs.Append.{Request, Appended}
 use Rattle.model.specs.Replica.{Left, noReplica, openAt, auditGiven, audit}
-use Rattle.model.specs.Histories.{Lent, inLog, tailAfter, isRefused, appendTo, Accepted, after, grown, empty, History, Passed, Carried, carried, Opening, fresh, atCheckpoint, ifFresh, ifOpened, opened, playOn, stood}
+use Rattle.model.specs.Histories.{Lent, inLog, tailAfter, isRefused, appendTo, Accepted, after, grown, feed, empty, History, ranTo, Passed, Carried, carried, Opening, fresh, atCheckpoint, ifFresh, ifOpened, opened, playOn, stood}
+use Rattle.model.specs.Run.{Fed, Run, start, runAt}
 use Rattle.model.specs.Terms.{Directed, InOrder, Playable, Ended, there, waiting, noRoom}
 use Rattle.model.specs.Claims.{PlayLeaves, Demand1, AcceptsExactly, KeepsGood, Demand2, Demand3, AuditsExactly, NeverWaits, OpensFresh, OpensAt, OpensWherever}
 use Rattle.model.specs.HeaderClaims.{HeaderRead, TellsWhere, PastIsBad}
@@ -29,6 +31,7 @@ use Rattle.model.specs.Worked.{code}
 use Rattle.laws.specs.FirstWriting.{sorted, auditPlayLast, lowestFalseLast, auditLast}
 use Rattle.laws.proofs.Refusals.{not-none, below-good}
 use Rattle.laws.proofs.Records.{good-shape}
+use Rattle.claims.specs.Named.{WorkedOut, WholeIsRun, AsBefore}
 use Rattle.claims.specs.Order.{SameCalls, counted, SameAudits, LeavesInOrder}
 use Rattle.claims.proofs.Demand1.{unchanged}
 use Rattle.claims.proofs.Leaves.{play-leaves}
@@ -37,6 +40,7 @@ use Rattle.claims.proofs.KeepsGood.{keeps-good}
 use Rattle.claims.proofs.ReadBack.{writes-one-slot, reads-back}
 use Rattle.claims.proofs.SameBytes.{same-bytes}
 use Rattle.claims.proofs.Aborts.{run-aborts}
+use Rattle.claims.proofs.Whole.{won-exactly}
 use Rattle.claims.proofs.Across.{replica-aborts}
 use Rattle.claims.proofs.Outcomes.{same-outcomes}
 use Rattle.claims.proofs.Demand3.{demand3}
@@ -48,6 +52,7 @@ use Rattle.claims.proofs.Order.{same-calls, same-audits, leaves-in-orde
 use Rattle.claims.proofs.Headers.{header-reads, tells-where, past-is-bad}
 use Rattle.claims.proofs.Astray.{tells-astray, astray-none, shown-passes}
 use Rattle.claims.proofs.Owed.{none-waits, owes-exactly, pays}
+use Rattle.claims.proofs.Named.{whole-is-run, unnamed}
 use Rattle.claims.proofs.Directories.{begins-refused, answers-fault}
 
 -- ---- what was not refused had a directory without fault
@@ -119,6 +124,25 @@ module _ (sh : Shape) (k : ℕ) (e : sh .fault ≡ some k) where
   unfolding logIn
   faulty-good h = ap (λ (l : Lent). lowestBad sh (inLog sh l)) (faulty-grown (empty (h .bytes)) (h .requests)) ∙ below-good sh (inLog sh (empty (h .bytes))) (λ p l. absurd (omega arith))
 
+  -- which is empty, and its run at the start
+  run-none : (fs : List Fed) → runAt 0 start fs ≡ start
+  unfolding runAt
+  run-none [] = refl
+  run-none (f ∷ fs) = go (f .wasRefused) (run-none fs)
+    where
+      go : (b : Bool) → runAt 0 start fs ≡ start → cond b (runAt 0 start fs) start ≡ start
+      go true ih = ih
+      go false ih = refl
+
+  faulty-whole : WholeIsRun sh
+  unfolding whole lookup
+  faulty-whole h p l =
+      let log : Log = inLog sh (grown sh (empty (h .bytes)) (h .requests)) in
+      let z : p ≡ 0 = omega (arith, ap (λ (l : Lent). l .tail) (faulty-grown (empty (h .bytes)) (h .requests))) in
+      let same = run-none (feed sh (empty (h .bytes)) (h .requests)) in
+      subst (λ (q : ℕ). WorkedOut log q (ranTo sh h q)) (sym z)
+      (record { cells = λ o k. ap (λ (s : Run). s .cells o k) (sym same); won = λ n. ap (λ (s : Run). s .won n) (sym same) })
+
   faulty-audits : SameAudits sh
   unfolding auditLast cellsOf values sorted tableWith joined
   faulty-audits log scratch =
@@ -173,6 +197,7 @@ module _ (dir : List ℕ) where
     readsBack = λ l q taken. reads-back sh (good (accepted-directed sh l q taken)) l q taken;
     sameBytes = λ l q q′ i i′ taken. same-bytes sh (good (accepted-directed sh l q taken)) l q q′ i i′ taken;
     runAborts = run-aborts;
+    wonExactly = won-exactly;
     replicaAborts = λ l r n c a. replica-aborts sh (good (a .playable .directed)) l r n c a;
     sameOutcomes = λ h scratch passed. same-outcomes sh (good (passed-directed sh h scratch passed)) h scratch passed;
   }
@@ -226,13 +251,13 @@ module _ (dir : List ℕ) where
   past-is-bad-for = past-is-bad sh refl
 
   pub tells-astray-for : TellsAstray (shapeOf dir)
-  tells-astray-for l n items i = (
-    λ e. tells-astray sh (good (refused-directed sh l _ 16 (λ c. absurd (omega arith)) (ap code e))) l n items i .0 e,
-    λ f. tells-astray sh (good (f .directed)) l n items i .1 f,
+  tells-astray-for l n items a b i = (
+    λ e. tells-astray sh (good (refused-directed sh l _ 16 (λ c. absurd (omega arith)) (ap code e))) l n items a b i .0 e,
+    λ f. tells-astray sh (good (f .directed)) l n items a b i .1 f,
   )
 
   pub astray-none-for : AstrayNone (shapeOf dir)
-  astray-none-for l n items taken = astray-none sh (good (accepted-directed sh l _ taken)) l n items taken
+  astray-none-for l n items a b taken = astray-none sh (good (accepted-directed sh l _ taken)) l n items a b taken
 
   pub shown-passes-for : ShownPasses (shapeOf dir)
   shown-passes-for h scratch passed = shown-passes sh (good (passed-directed sh h scratch passed)) h scratch passed
@@ -242,6 +267,14 @@ module _ (dir : List ℕ) where
 
   pub owes-exactly-for : OwesExactly (shapeOf dir)
   owes-exactly-for = by-fault sh (λ e. owes-exactly sh (good e)) (λ k e. faulty-owed sh k e)
+
+  pub whole-is-run-for : WholeIsRun (shapeOf dir)
+  whole-is-run-for = by-fault sh (λ e. whole-is-run sh (good e)) (λ k e. faulty-whole sh k e)
+
+  -- the layout is that of every directory
+  pub unnamed-for : AsBefore (shapeOf dir)
+  unfolding listedIn faultOf
+  unnamed-for = unnamed sh refl
 
   pub pays-for : Pays (shapeOf dir)
   pays-for l o v taken = pays sh (good (accepted-directed sh l _ taken)) l o v taken

@@ -1,5 +1,5 @@
 -- The audit's test of a decision or checkpoint, over the run: where its play goes on to the tail, its cells are the run's, so a
--- decision passes exactly if it says whether some read was stale, and a checkpoint if it says what each cell of its object held.
+-- decision passes exactly if it says whether its commit record aborts, and a checkpoint if it says what each cell of its object held.
 use Prim.Native.Nat.{ℕ, _<_}
 use mathlib.Core.Path.{_≡_, refl, sym, _∙_}
 use mathlib.Core.Logic.{_↔_}
@@ -15,40 +15,39 @@ use Rattle.model.specs.Objects.{Shape, ids, isObject}
 use Rattle.model.specs.Entries.{Decision, Saved, Condition, commit, decision, checkpoint, Log}
 use Rattle.model.specs.Slot.{okShape}
 use Rattle.model.specs.Rules.{okEntry, lowestBad, savedBefore}
-use Rattle.model.specs.Table.{Holds}
 use Rattle.model.specs.Play.{cellsIn}
 use Rattle.model.specs.Answers.{badFrame}
 use Rattle.model.specs.Replica.{auditPlay, commitsThere, asPlayed}
-use Rattle.model.specs.Run.{current}
-use Rattle.model.specs.Terms.{Stale, savedFor}
+use Rattle.model.specs.Run.{Run, commitsNow}
+use Rattle.model.specs.Terms.{AbortsIn, savedFor}
 use Rattle.laws.proofs.Appends.{good-kept}
 use Rattle.claims.proofs.Runs.{run, commitsAt}
-use Rattle.claims.proofs.Aborts.{stale-old, old-stale}
+use Rattle.claims.proofs.Aborts.{aborts-fails, fails-aborts}
 use Rattle.claims.proofs.Audits.{isGoing, goes-back, played-shows, commits-same}
 use Rattle.claims.proofs.Checkpoints.{same-said}
 
--- an outcome and a test of reads
-says-stale : (v : ℕ) (cells : Holds) (c : Condition) → (Bool·beq (eqb v 1) (current cells (c .reads)) ≡ true) ↔ ((v ≡ 1) ↔ (Stale cells c → ⊥))
-says-stale v cells c = go (eqb v 1) (current cells (c .reads)) refl refl
+-- an outcome and the run's test
+says-aborts : (v : ℕ) (s : Run) (c : Condition) → (Bool·beq (eqb v 1) (commitsNow s c) ≡ true) ↔ ((v ≡ 1) ↔ (AbortsIn s c → ⊥))
+says-aborts v s c = go (eqb v 1) (commitsNow s c) refl refl
   where
-    fresh : current cells (c .reads) ≡ true → Stale cells c → ⊥
-    fresh q s = clash (current cells (c .reads)) q (stale-old cells c s)
+    through : commitsNow s c ≡ true → AbortsIn s c → ⊥
+    through q x = clash (commitsNow s c) q (aborts-fails s c x)
 
-    go : (a b : Bool) → eqb v 1 ≡ a → current cells (c .reads) ≡ b → (Bool·beq a b ≡ true) ↔ ((v ≡ 1) ↔ (Stale cells c → ⊥))
-    go true true p q = (λ e. (λ i. fresh q, λ n. eqb-true v 1 p), λ h. refl)
-    go true false p q = (λ e. clash false e refl, λ h. absurd (h .0 (eqb-true v 1 p) (old-stale cells c q)))
-    go false true p q = (λ e. clash false e refl, λ h. absurd (eqb-false v 1 p (h .1 (fresh q))))
-    go false false p q = (λ e. (λ i. absurd (eqb-false v 1 p i), λ n. absurd (n (old-stale cells c q))), λ h. refl)
+    go : (a b : Bool) → eqb v 1 ≡ a → commitsNow s c ≡ b → (Bool·beq a b ≡ true) ↔ ((v ≡ 1) ↔ (AbortsIn s c → ⊥))
+    go true true p q = (λ e. (λ i. through q, λ n. eqb-true v 1 p), λ h. refl)
+    go true false p q = (λ e. clash false e refl, λ h. absurd (h .0 (eqb-true v 1 p) (fails-aborts s c q)))
+    go false true p q = (λ e. clash false e refl, λ h. absurd (eqb-false v 1 p (h .1 (through q))))
+    go false false p q = (λ e. (λ i. absurd (eqb-false v 1 p i), λ n. absurd (n (fails-aborts s c q))), λ h. refl)
 
 module _ (sh : Shape) (shape : okShape sh ≡ true) (log : Log) (room : ℕ) (frame : badFrame sh.layout log ≡ false) (good : lowestBad sh log ≡ none)
     (ended : isGoing (auditPlay sh log room (log .tail)) ≡ true) where
   pub decision-judged : (d : ℕ) (r : Decision) (n : ℕ) (c : Condition) → d < log .tail → r .offset < d → log .entry (r .offset) ≡ commit n c
-      → (asPlayed sh log room d (decision r) ≡ true) ↔ ((r .outcome ≡ 1) ↔ (Stale (run log (r .offset) .cells) c → ⊥))
+      → (asPlayed sh log room d (decision r) ≡ true) ↔ ((r .outcome ≡ 1) ↔ (AbortsIn (run log (r .offset)) c → ⊥))
   decision-judged d r n c l b i =
       let o : ℕ = r .offset in
       let e : commitsThere sh log room o ≡ commitsAt log o = commits-same sh shape log room frame good o (omega arith) (goes-back sh log room o ended (omega arith)) in
-      let f : commitsThere sh log room o ≡ current (run log o .cells) (c .reads) = e ∙ rw i in
-      rw f (says-stale (r .outcome) (run log o .cells) c)
+      let f : commitsThere sh log room o ≡ commitsNow (run log o) c = e ∙ rw i in
+      rw f (says-aborts (r .outcome) (run log o) c)
 
   pub checkpoint-judged : (d o : ℕ) (cs : List Saved) → d < log .tail → log .entry d ≡ checkpoint o cs
       → (asPlayed sh log room d (checkpoint o cs) ≡ true) ↔ ((k : ℕ) → savedFor cs k ≡ run log d .cells o k)

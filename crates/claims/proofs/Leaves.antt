@@ -198,8 +198,8 @@ play-leaves sh shape l r stop = go (playRefusal sh (inLog sh l) (r .replica) (r 
         }
 
 -- what makes a play one that nothing refuses, in other words
-pub refit : (a b : Type 0) (log : Log) (set : List ℕ) (from stop : ℕ) (out : Left) → (a → b) → (b → a) → Waiting a log set from stop out → Waiting b log set from stop out
-refit a b log set from stop out f g w = record {
+pub refit : (sh : Shape) (a b : Type 0) (log : Log) (set : List ℕ) (from stop : ℕ) (out : Left) → (a → b) → (b → a) → Waiting sh a log set from stop out → Waiting sh b log set from stop out
+refit sh a b log set from stop out f g w = record {
   exactly = ((λ e. let h = w .exactly .0 e in (f (h .0), h .1, h .2)), (λ h. w .exactly .1 (g (h .0), h .1, h .2)));
   passes = λ x. w .passes (g x);
   notBack = λ x. w .notBack (g x);

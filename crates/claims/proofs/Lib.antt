@@ -1,4 +1,5 @@
 pub mod Terms
+pub mod Names
 pub mod Aborts
 pub mod ReadBack
 pub mod SameBytes
@@ -12,6 +13,8 @@ pub mod Accepts
 pub mod Counts
 pub mod Cells
 pub mod Runs
+pub mod Writes
+pub mod Whole
 pub mod Steps
 pub mod Growing
 pub mod Reached
@@ -36,6 +39,7 @@ pub mod Demand2
 pub mod Order
 pub mod Headers
 pub mod Owed
+pub mod Named
 pub mod Directories
 pub mod Handed
 pub mod Sums

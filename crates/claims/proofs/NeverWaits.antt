@@ -1,5 +1,5 @@
 -- An audit never waits, on any log and over any scratch table: it plays good logs alone, whose commit records read objects of
--- the directory, and it hosts them all, so it decides each commit record by its own cells.
+-- the directory, and it hosts them all, so it decides each commit record by itself.
 use Prim.Native.Nat.{ℕ, zero, suc, _+_, _<_}
 use mathlib.Core.Path.{_≡_, refl, ap, _∙_}
 use mathlib.Core.Bool.{Bool, true, false, cond}
@@ -14,7 +14,7 @@ use Rattle.model.specs.Objects.{Shape, ids, everything}
 use Rattle.model.specs.Entries.{Write, Condition, Effect, writes, aside, tries, inert, effect, Log, writesOf, headerObjects}
 use Rattle.model.specs.Rules.{lowestBad}
 use Rattle.model.specs.Table.{Cell, lookup, capacity, apply}
-use Rattle.model.specs.Play.{Played, going, waits, lacks, commitsOver, alone, make, finish, act, step, andThen, play}
+use Rattle.model.specs.Play.{Played, going, waits, lacks, commitsOver, whole, alone, make, finish, act, step, andThen, play}
 use Rattle.model.specs.Answers.{Refusal, refuse, refuseAt, firstOf, badFrame, frameAndEntries}
 use Rattle.model.specs.Replica.{plainly, auditPlay, lowestFalse, auditGiven, audit}
 use Rattle.model.specs.Claims.{NeverWaits}
@@ -45,7 +45,7 @@ module _ (sh : Shape) (log : Log) (set : List ℕ) (room p : ℕ) (cs : List Cel
   act-on : (e : Effect) → effect (log .entry p) ≡ e → isWaiting (act sh log set room p cs e) ≡ false
   act-on (writes ws) e = make-on ws
   act-on (aside n ws) e = refl
-  act-on (tries n c) e = rw (hosts n c e) (finish-on (writesOf log n p) (commitsOver (lookup cs) c))
+  act-on (tries n c) e = rw (hosts n c e) (finish-on (writesOf log n p) (commitsOver (lookup cs) (whole log p .won) c))
   act-on inert e = refl
 
   step-on : isWaiting (step sh log set room p cs) ≡ false

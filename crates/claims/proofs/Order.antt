@@ -18,7 +18,7 @@ use Rattle.model.specs.Entries.{Entry, plain, numbered, commit, decision, check
 use Rattle.model.specs.Slot.{slotOf, logOf, logIn, okShape}
 use Rattle.model.specs.Rules.{lowest, lowestBad, okSaved, okEntry}
 use Rattle.model.specs.Table.{Cell, cellSize, cellsOf, tableWith, capacity, lookup, inOrder, savedOf}
-use Rattle.model.specs.Play.{Played, going, waits, lacks, cellsIn, versionAt, commitsOver, play}
+use Rattle.model.specs.Play.{Played, going, waits, lacks, cellsIn, versionAt, commitsOver, whole, play}
 use Rattle.model.specs.Answers.{Refusal, done, refuse, refuseAt, firstOf, answer, slots, badDirectory, badFrame, frameAndEntries}
 use Rattle.model.specs.Append.{Replica, saves, savedGiven, badRecord, entryOf, ownTests, append, appendGiven}
 use Rattle.model.specs.Replica.{Left, leftWith, openFresh, Checkpoint, checkpointIn, openRefusal, openGiven, openAt, badStop, playRefusal, leftBy, playFrom, playCall, readCell, auditPlay, commitsThere, asPlayed, sameSaved, lowestFalse, auditGiven, audit}
@@ -307,10 +307,10 @@ module _ (sh : Shape) (log : Log) (room : ℕ) where
   commits-there : (p : ℕ) → commitsThere sh log room p ≡ commitsThereLast sh log room p
   commits-there p = go (commitAt log p)
     where
-      go : (x : Option Commit) → ifSome x false (λ c. commitsOver (lookup (cellsIn (auditPlay sh log room p))) (c .condition))
-          ≡ ifSome x false (λ c. commitsOver (lookup (cellsIn (auditPlayLast sh log room p))) (c .condition))
+      go : (x : Option Commit) → ifSome x false (λ c. commitsOver (lookup (cellsIn (auditPlay sh log room p))) (whole log p .won) (c .condition))
+          ≡ ifSome x false (λ c. commitsOver (lookup (cellsIn (auditPlayLast sh log room p))) (whole log p .won) (c .condition))
       go none = refl
-      go (some c) = commits-alike (lookup (cellsIn (auditPlay sh log room p))) (lookup (cellsIn (auditPlayLast sh log room p))) (c .condition)
+      go (some c) = commits-alike (lookup (cellsIn (auditPlay sh log room p))) (lookup (cellsIn (auditPlayLast sh log room p))) (whole log p .won) (c .condition)
           (λ o k. ap (λ (cs : List Cell). lookup cs o k) (audit-cells p) ∙ lookup-sorted (cellsIn (auditPlayLast sh log room p)) o k)
 
   as-played : (p : ℕ) (e : Entry) → asPlayed sh log room p e ≡ asPlayedLast sh log room p e

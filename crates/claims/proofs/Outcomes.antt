@@ -1,5 +1,5 @@
 -- A replica played across the commit record at its position reaches the run's outcome, or waits: by demand 3 its cells are the run's
--- before and after, and the run's cells after the record are those before it exactly where a read is stale.
+-- before and after, and the run's cells after the record are those before it exactly where it aborts.
 use Prim.Native.Nat.{ℕ, suc, _+_, _<_}
 use mathlib.Core.Path.{_≡_, refl, ap, sym, _∙_, subst}
 use mathlib.Core.Logic.{_↔_}
@@ -21,12 +21,12 @@ use Rattle.model.specs.Play.{Played, going, waits, lacks}
 use Rattle.model.specs.Answers.{Refusal, done}
 use Rattle.model.specs.Append.{Replica}
 use Rattle.model.specs.Replica.{Left, plainly, playRefusal, leftBy, playGiven, playFrom, playCall, readCell}
-use Rattle.model.specs.Run.{Run, current, madeAll}
+use Rattle.model.specs.Run.{Run, commitsNow, madeAll}
 use Rattle.model.specs.Histories.{Lent, inLog, isRefused, History, wholeLog, stood, ranTo, Carried, carried, Play, played, plays, hosts, cellsWritten}
-use Rattle.model.specs.Terms.{Stale, Concerns, Blocked, Fit, Ended, there, waiting, noRoom}
+use Rattle.model.specs.Terms.{AbortsIn, Concerns, Blocked, Fit, Ended, there, waiting, noRoom}
 use Rattle.model.specs.Claims.{Waiting, Shows, SameOutcome, SameOutcomes}
 use Rattle.claims.proofs.Runs.{cellsAfter, run, cells-run}
-use Rattle.claims.proofs.Aborts.{stale-old, none-stale}
+use Rattle.claims.proofs.Aborts.{aborts-fails, goes-through}
 use Rattle.claims.proofs.Audits.{audit-passed}
 use Rattle.claims.proofs.Histories.{run-at, Stood, stood-so}
 use Rattle.claims.proofs.Demand3.{demand3}
@@ -73,20 +73,20 @@ plays-more sh h r (q ∷ ps) p = plays-more sh h (carried (played sh h r q)) ps 
 
 module _ (sh : Shape) (shape : okShape sh ≡ true) (h : History) (p n : ℕ) (c : Condition)
     (low : p < wholeLog sh h .tail) (here : inLog sh (wholeLog sh h) .entry p ≡ commit n c) where
-  ran-next : ranTo sh h (p + 1) .cells ≡ cond (current (ranTo sh h p .cells) (c .reads)) (madeAll (p + 1) (ranTo sh h p .aside n) (ranTo sh h p .cells)) (ranTo sh h p .cells)
+  ran-next : ranTo sh h (p + 1) .cells ≡ cond (commitsNow (ranTo sh h p) c) (madeAll (p + 1) (ranTo sh h p .aside n) (ranTo sh h p .cells)) (ranTo sh h p .cells)
   ran-next =
       let whole : Log = inLog sh (wholeLog sh h) in
       let s : p + 1 ≡ suc p = add-one p in
       let then : ranTo sh h p ≡ run whole p = run-at sh shape h p (omega arith) in
       ap (λ (x : Run). x .cells) (run-at sh shape h (p + 1) (omega arith)) ∙ ap (λ (m : ℕ). run whole m .cells) s
       ∙ cells-run whole p ∙ ap (λ (e : Entry). cellsAfter (p + 1) (run whole p) (effect e)) here
-      ∙ ap (λ (x : Run). cond (current (x .cells) (c .reads)) (madeAll (p + 1) (x .aside n) (x .cells)) (x .cells)) (sym then)
+      ∙ ap (λ (x : Run). cond (commitsNow x c) (madeAll (p + 1) (x .aside n) (x .cells)) (x .cells)) (sym then)
 
-  pub ran-aborts : Stale (ranTo sh h p .cells) c → ranTo sh h (p + 1) .cells ≡ ranTo sh h p .cells
-  ran-aborts s = ran-next ∙ ap (λ (b : Bool). cond b (madeAll (p + 1) (ranTo sh h p .aside n) (ranTo sh h p .cells)) (ranTo sh h p .cells)) (stale-old (ranTo sh h p .cells) c s)
+  pub ran-aborts : AbortsIn (ranTo sh h p) c → ranTo sh h (p + 1) .cells ≡ ranTo sh h p .cells
+  ran-aborts s = ran-next ∙ ap (λ (b : Bool). cond b (madeAll (p + 1) (ranTo sh h p .aside n) (ranTo sh h p .cells)) (ranTo sh h p .cells)) (aborts-fails (ranTo sh h p) c s)
 
-  pub ran-makes : (Stale (ranTo sh h p .cells) c → ⊥) → ranTo sh h (p + 1) .cells ≡ madeAll (p + 1) (ranTo sh h p .aside n) (ranTo sh h p .cells)
-  ran-makes f = ran-next ∙ ap (λ (b : Bool). cond b (madeAll (p + 1) (ranTo sh h p .aside n) (ranTo sh h p .cells)) (ranTo sh h p .cells)) (none-stale (ranTo sh h p .cells) c f)
+  pub ran-makes : (AbortsIn (ranTo sh h p) c → ⊥) → ranTo sh h (p + 1) .cells ≡ madeAll (p + 1) (ranTo sh h p .aside n) (ranTo sh h p .cells)
+  ran-makes f = ran-next ∙ ap (λ (b : Bool). cond b (madeAll (p + 1) (ranTo sh h p .aside n) (ranTo sh h p .cells)) (ranTo sh h p .cells)) (goes-through (ranTo sh h p) c f)
 
 -- ---- the outcomes
 
@@ -116,19 +116,19 @@ module _ (sh : Shape) (h : History) (x : Carried) (m n : ℕ) (c : Condition) (s
       go (waiting d i) = clash true refl (ap isRefused (sym d ∙ e))
       go (noRoom d i) = clash true refl (ap isRefused (sym d ∙ e))
 
-  waits-there : (out .answer ≡ plainly 12) ↔ Blocked (inLog sh (stood sh h m)) (hosts sh x) p
+  waits-there : (out .answer ≡ plainly 12) ↔ Blocked sh (inLog sh (stood sh h m)) (hosts sh x) p
   waits-there = (forth, back ended)
     where
-      w : Waiting (Fit sh (stood sh h m .tail) x (p + 1)) (inLog sh (stood sh h m)) (hosts sh x) p (p + 1) out
+      w : Waiting sh (Fit sh (stood sh h m .tail) x (p + 1)) (inLog sh (stood sh h m)) (hosts sh x) p (p + 1) out
       w = shows .waits turn
 
-      forth : out .answer ≡ plainly 12 → Blocked (inLog sh (stood sh h m)) (hosts sh x) p
-      forth e = let k = w .exactly .0 e in subst (Blocked (inLog sh (stood sh h m)) (hosts sh x)) (short (k .1)) (k .2)
+      forth : out .answer ≡ plainly 12 → Blocked sh (inLog sh (stood sh h m)) (hosts sh x) p
+      forth e = let k = w .exactly .0 e in subst (Blocked sh (inLog sh (stood sh h m)) (hosts sh x)) (short (k .1)) (k .2)
 
-      back : Ended (p + 1) out → Blocked (inLog sh (stood sh h m)) (hosts sh x) p → out .answer ≡ plainly 12
+      back : Ended (p + 1) out → Blocked sh (inLog sh (stood sh h m)) (hosts sh x) p → out .answer ≡ plainly 12
       back (there d i) b = absurd (w .passes fit p (omega arith) (omega (arith, i)) b)
       back (waiting d i) b = d
-      back (noRoom d i) b = w .exactly .1 (fit, i, subst (Blocked (inLog sh (stood sh h m)) (hosts sh x)) (sym (short i)) b)
+      back (noRoom d i) b = w .exactly .1 (fit, i, subst (Blocked sh (inLog sh (stood sh h m)) (hosts sh x)) (sym (short i)) b)
 
   module _ (shape : okShape sh ≡ true) (low : p < wholeLog sh h .tail) (here : inLog sh (wholeLog sh h) .entry p ≡ commit n c) (next : Shows sh h (carried out)) where
     hosts-same : hosts sh (carried out) ≡ hosts sh x
@@ -138,7 +138,7 @@ module _ (sh : Shape) (h : History) (x : Carried) (m n : ℕ) (c : Condition) (s
     reads-next e o k i j =
         next .cells o k (ap (mem o) hosts-same ∙ i) j ∙ ap (λ (q : ℕ). done (ranTo sh h q .cells o k)) (arrived e)
 
-    never-lacks : out .answer ≡ plainly 13 → Stale (ranTo sh h p .cells) c → ⊥
+    never-lacks : out .answer ≡ plainly 13 → AbortsIn (ranTo sh h p) c → ⊥
     never-lacks e s =
         let at : out .replica .position ≡ p = go ended in
         let many = shows .lacks turn e in

@@ -1,6 +1,6 @@
 -- Decisions owed: a commit record owes exactly where its words hold for a declared set, and the call answers the lowest such offset; since a play
 -- waits at what a replica of its set is owed, none waits where nothing is owed; and a decision record, once appended, is there for good.
-use Prim.Native.Nat.{ℕ, _+_, _-_, _<_, _≤_}
+use Prim.Native.Nat.{ℕ, _-_, _<_, _≤_}
 use mathlib.Core.Path.{_≡_, refl, ap, sym, _∙_}
 use mathlib.Core.Bool.{Bool, true, false}
 use mathlib.Core.List.{List, [], _∷_, _++_, List·Memᴰ}
@@ -226,7 +226,7 @@ none-waits sh log sets nothing r table stop declared h = go (playRefusal sh log 
 -- ---- a decision pays
 
 -- two logs that agree below p
-module _ (new old : Log) (p : ℕ) (agrees : Agree new old p) where
+module _ (sh : Shape) (new old : Log) (p : ℕ) (agrees : Agree new old p) where
   aside-back : (n q : ℕ) (w : Write) → q ≤ p → SetAside new n q w → SetAside old n q w
   aside-back n q w l s = record { at = s .at; writes = s .writes; below = s .below; here = sym (agrees (s .at) (omega (arith, s .below))) ∙ s .here; one = s .one }
 
@@ -234,7 +234,7 @@ module _ (new old : Log) (p : ℕ) (agrees : Agree new old p) where
   decided-on q m l (d, r, b, e, o) = (d, r, omega arith, agrees d b ∙ e, o)
 
   -- blocked in the new log, it was in the old
-  blocked-back : (set : List ℕ) (q : ℕ) → q < p → old .tail ≡ p → p ≤ new .tail → Blocked new set q → Blocked old set q
+  blocked-back : (set : List ℕ) (q : ℕ) → q < p → old .tail ≡ p → p ≤ new .tail → Blocked sh new set q → Blocked sh old set q
   blocked-back set q l t h b =
       let (w, s, m) = b .concerns in
       record {
@@ -289,7 +289,7 @@ module _ (sh : Shape) (shape : okShape sh ≡ true) (l : Lent) (o v : ℕ) (take
             record {
               set = w .set;
               declared = w .declared;
-              blocked = blocked-back (inLog sh then) (inLog sh l) (l .tail) (g .below) (hosted sh (w .set)) q b refl (omega (arith, g .longer)) (w .blocked);
+              blocked = blocked-back sh (inLog sh then) (inLog sh l) (l .tail) (g .below) (hosted sh (w .set)) q b refl (omega (arith, g .longer)) (w .blocked);
             },
           )
 

@@ -9,14 +9,14 @@ use mathlib.Core.Option.{none}
 use Prim.Native.Nat.{ℕ, _+_, _*_, _≤_}
 use native.Mathlib.Omega.{arith}
 use lib.ListN.{length, take, drop}
-use borrow.Author.Tests.{lt-leb, lt-ltb}
+use borrow.Author.Tests.{lt-leb}
 use Rattle.lists.specs.Sets.{mem, ascendingSet, mem-set, ascending-set, set-of-ascending}
 use Rattle.lists.specs.Members.{mem-map, map-mem}
 use Rattle.lists.specs.Rows.{map-values}
 use Rattle.lists.specs.Bytes.{beAt}
 use Rattle.lists.specs.Splice.{splice}
 use Rattle.model.specs.Objects.{Layout, Shape}
-use Rattle.model.specs.Entries.{Write, commit, Log, writesOf, writtenObjects, commitObjects, headerObjects, numberOf}
+use Rattle.model.specs.Entries.{Write, commit, Log, writesOf, writtenObjects, commitObjects, headerObjects, numberOf, firstNamed, secondNamed}
 use Rattle.model.specs.Slot.{objectsIn, markOf, itemBytes, itemCount, slotOf, slot, logIn, headerSize, headersBegin, itemSize, itemsBegin, okShape}
 use Rattle.model.specs.Rules.{lowestBad}
 use Rattle.model.specs.Table.{Cell, cellsOf, savedOf}
@@ -25,13 +25,13 @@ use Rattle.model.specs.Reading.{Header, headerAt, kindIn, infoIn, entryRefusal,
 use Rattle.model.specs.Append.{Request, update, commits, decides, saves, writesGiven, entryOf}
 use Rattle.model.specs.Histories.{Lent, inLog, tailAfter, appendTo, after, Accepted, grown}
 use Rattle.model.specs.Terms.{SetAside, Allowed}
-use Rattle.model.specs.Claims.{WroteOneSlot, WritesOneSlot, kindGiven, NumberGiven, ObjectsGiven, ItemsGiven, headerObjectsIn, Back, ReadsBack}
-use Rattle.laws.proofs.Slots.{Kept, headers-few, number-fits, items-few, slot-mark, slot-count, slot-number, slot-items}
+use Rattle.model.specs.Claims.{WroteOneSlot, WritesOneSlot, kindGiven, firstGiven, secondGiven, NumberGiven, ObjectsGiven, ItemsGiven, headerObjectsIn, Back, ReadsBack}
+use Rattle.laws.proofs.Slots.{Kept, headers-few, number-fits, first-fits, second-fits, items-few, slot-first, slot-second, slot-mark, slot-count, slot-number, slot-items}
 use Rattle.laws.proofs.Stored.{given-writes, given-reads, update-items}
 use Rattle.laws.proofs.Decisions.{headers-ascend}
 use Rattle.laws.proofs.Headers.{headers-small, objects-read}
 use Rattle.laws.proofs.Appends.{Accepted as Exit, saved-ascends, accepted, good-kept, passed, wrote}
-use Rattle.laws.proofs.ByKind.{update-mark, update-number, update-objects}
+use Rattle.laws.proofs.ByKind.{update-mark, update-number, update-first, update-second, update-objects}
 use Rattle.claims.proofs.Terms.{writes-aside, aside-writes}
 use Rattle.claims.proofs.KeepsGood.{grown-good}
 use Rattle.claims.proofs.Later.{Later, grown-later, slot-later}
@@ -43,7 +43,7 @@ use Rattle.claims.proofs.Accepts.{accepts-exactly}
 kind-marked : (log : Log) (s : List ℕ) (q : Request) → beAt 2 s 0 ≡ markOf (entryOf log q) → kindIn s ≡ kindGiven q
 unfolding entryOf
 kind-marked log s (update n items) e = rw (e ∙ update-mark n (writesGiven items))
-kind-marked log s (commits n items) e = rw e
+kind-marked log s (commits n items a b) e = rw e
 kind-marked log s (decides o v) e = rw e
 kind-marked log s (saves r table o) e = rw e
 
@@ -59,7 +59,7 @@ objects-told ly s = map-values (λ (x : Header). x .object) (λ i. headerAt s (h
 items-given : (sh : Shape) (log : Log) (q : Request) → Allowed sh log q → ItemsGiven q (itemBytes (entryOf log q))
 unfolding entryOf itemBytes
 items-given sh log (update n items) a = λ bytes. update-items n (writesGiven items) ∙ given-writes items bytes (omega (arith, a .whole))
-items-given sh log (commits n items) a = λ bytes. given-reads items bytes (omega (arith, a .asked .whole))
+items-given sh log (commits n items c d) a = λ bytes. given-reads items bytes (omega (arith, a .asked .whole))
 items-given sh log (decides o v) a = refl
 items-given sh log (saves r table o) a =
     let cells : List Cell = cellsOf table (r .count) in
@@ -68,7 +68,7 @@ items-given sh log (saves r table o) a =
 number-given : (sh : Shape) (log : Log) (q : Request) → Allowed sh log q → NumberGiven log q (numberOf (entryOf log q))
 unfolding entryOf
 number-given sh log (update n items) a = update-number n (writesGiven items)
-number-given sh log (commits n items) a = refl
+number-given sh log (commits n items c d) a = refl
 number-given sh log (decides o v) a =
     let (n, c, e) = a .commits in
     (c, e ∙ ap (λ (m : ℕ). commit m c) (sym (ap numberOf e)))
@@ -90,11 +90,26 @@ unfolding entryOf headerObjects
 objects-given sh log (update n items) a =
     let ws : List Write = writesGiven items in
     rw (update-objects n ws log (log .tail)) (written-words ws (λ w. List·Memᴰ w ws) (λ w. (λ m. m, λ m. m)))
-objects-given sh log (commits n items) a = commit-words log n (log .tail)
+objects-given sh log (commits n items c d) a = commit-words log n (log .tail)
 objects-given sh log (decides o v) a = λ n c e.
     let own : headerObjects log o (log .entry o) ≡ commitObjects log o n = ap (headerObjects log o) e in
     rw (own, set-of-ascending (commitObjects log o n) (ascending-set (writtenObjects (writesOf log n o)))) (commit-words log n o)
 objects-given sh log (saves r table o) a = refl
+
+-- the numbers that it names
+first-given : (log : Log) (q : Request) → firstNamed (entryOf log q) ≡ firstGiven q
+unfolding entryOf
+first-given log (update n items) = update-first n (writesGiven items)
+first-given log (commits n items a b) = refl
+first-given log (decides o v) = refl
+first-given log (saves r table o) = refl
+
+second-given : (log : Log) (q : Request) → secondNamed (entryOf log q) ≡ secondGiven q
+unfolding entryOf
+second-given log (update n items) = update-second n (writesGiven items)
+second-given log (commits n items a b) = refl
+second-given log (decides o v) = refl
+second-given log (saves r table o) = refl
 
 -- ---- what an accepted append left
 
@@ -143,6 +158,14 @@ module _ (sh : Shape) (shape : okShape sh ≡ true) (l : Lent) (q : Request) (ta
       objects-told sh.layout itsSlot
       ∙ objects-read sh shape (inLog sh l) (l .tail) (entryOf (inLog sh l) q) few-headers (headers-small sh shape (inLog sh l) (l .tail) (entryOf (inLog sh l) q) kept (exit .obeyed))
 
+  pub first-is : infoIn sh.layout itsSlot .first ≡ firstNamed (entryOf (inLog sh l) q)
+  unfolding infoIn
+  first-is = slot-first sh shape (inLog sh l) (l .tail) (entryOf (inLog sh l) q) few-headers few-items (first-fits sh (inLog sh l) shape (l .tail) (entryOf (inLog sh l) q) (exit .obeyed))
+
+  pub second-is : infoIn sh.layout itsSlot .second ≡ secondNamed (entryOf (inLog sh l) q)
+  unfolding infoIn
+  second-is = slot-second sh shape (inLog sh l) (l .tail) (entryOf (inLog sh l) q) few-headers few-items (second-fits sh (inLog sh l) shape (l .tail) (entryOf (inLog sh l) q) (exit .obeyed))
+
   -- ---- the calls, some appends later
 
   module _ (later : List Request) where
@@ -190,6 +213,8 @@ module _ (sh : Shape) (shape : okShape sh ≡ true) (l : Lent) (q : Request) (ta
       objects = rw objects-are (objects-given sh (inLog sh l) q given);
       ascend = rw objects-are (headers-ascend (inLog sh l) (l .tail) (entryOf (inLog sh l) q));
       items = rw items-left (items-given sh (inLog sh l) q given);
+      first = first-is ∙ first-given (inLog sh l) q;
+      second = second-is ∙ second-given (inLog sh l) q;
     }
 
 pub reads-back : (sh : Shape) → okShape sh ≡ true → ReadsBack sh

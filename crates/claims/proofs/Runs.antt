@@ -4,7 +4,7 @@
 use Prim.Native.Nat.{ℕ, zero, suc, _+_, _<_}
 use mathlib.Core.Path.{_≡_, refl, ap, sym, _∙_, subst}
 use mathlib.Core.Logic.{_⊎_, inl, inr}
-use mathlib.Core.Bool.{Bool, true, false, cond, _||_}
+use mathlib.Core.Bool.{Bool, true, false, cond, _&&_, _||_}
 use mathlib.Core.List.{List, [], _∷_, _++_, append-nil}
 use mathlib.Core.Option.{Option, none, some}
 use native.Mathlib.Omega.{arith}
@@ -15,13 +15,13 @@ use Rattle.lists.specs.Sets.{any}
 use Rattle.model.specs.Entries.{Write, Held, plain, numbered, Effect, writes, aside, tries, inert, effect, Log, contentOf, asideUnder, writesOf, ofCell, stampedBy, stamps, commitAt, ifSome}
 use Rattle.model.specs.Table.{Holds, versionIn}
 use Rattle.model.specs.Append.{Request, update, commits, decides, saves, writesGiven, entryOf}
-use Rattle.model.specs.Run.{Run, start, hasVersion, current, written, madeAll, setAside, accept}
+use Rattle.model.specs.Run.{Run, start, hasVersion, commitsNow, written, madeAll, setAside, accept}
 use Rattle.laws.proofs.Agree.{Agree, fewer}
 
 abbrev pub cellsAfter : ℕ → Run → Effect → Holds
 cellsAfter v s (writes ws) = madeAll v ws (s .cells)
 cellsAfter v s (aside n ws) = s .cells
-cellsAfter v s (tries n c) = cond (current (s .cells) (c .reads)) (madeAll v (s .aside n) (s .cells)) (s .cells)
+cellsAfter v s (tries n c) = cond (commitsNow s c) (madeAll v (s .aside n) (s .cells)) (s .cells)
 cellsAfter v s inert = s .cells
 
 abbrev pub asideAfter : Run → Effect → ℕ → List Write
@@ -30,8 +30,14 @@ asideAfter s (aside n ws) = setAside n ws (s .aside)
 asideAfter s (tries n c) = s .aside
 asideAfter s inert = s .aside
 
+abbrev pub wonAfter : Run → Effect → ℕ → Bool
+wonAfter s (writes ws) = s .won
+wonAfter s (aside n ws) = s .won
+wonAfter s (tries n c) = λ m. s .won m || (eqb n m && commitsNow s c)
+wonAfter s inert = s .won
+
 abbrev pub runStep : ℕ → Run → Effect → Run
-runStep v s e = record { count = v; cells = cellsAfter v s e; aside = asideAfter s e }
+runStep v s e = record { count = v; cells = cellsAfter v s e; aside = asideAfter s e; won = wonAfter s e }
 
 -- the run over the first p entries
 pub run : Log → ℕ → Run
@@ -62,6 +68,11 @@ aside-run log n (suc p) = go (effect (log .entry p)) (aside-run log n p)
     go (tries m c) h = h ∙ sym (append-nil (writesOf log n p))
     go inert h = h ∙ sym (append-nil (writesOf log n p))
 
+-- one entry more
+pub run-more : (log : Log) (p : ℕ) → run log (suc p) ≡ runStep (p + 1) (run log p) (effect (log .entry p))
+unfolding run
+run-more log p = refl
+
 -- the cells after the entry at p
 pub cells-run : (log : Log) (p : ℕ) → run log (suc p) .cells ≡ cellsAfter (p + 1) (run log p) (effect (log .entry p))
 unfolding run
@@ -74,7 +85,7 @@ run-agree log log′ (suc p) a = rw (run-agree log log′ p (fewer log log′ (s
 
 -- whether the commit record at p commits in the run
 abbrev pub commitsAt : Log → ℕ → Bool
-commitsAt log p = ifSome (commitAt log p) false (λ c. current (run log p .cells) (c .condition .reads))
+commitsAt log p = ifSome (commitAt log p) false (λ c. commitsNow (run log p) (c .condition))
 
 turned : (a b : ℕ) → eqb a b ≡ eqb b a
 turned a b = go (eqb a b) refl
@@ -94,12 +105,12 @@ accept-step : (log : Log) (v : ℕ) (s : Run) (q : Request) → accept v s q ≡
 unfolding accept entryOf
 accept-step log v s (update n items) = go (eqb n 0)
   where
-    go : (b : Bool) → cond b (record { count = v; cells = madeAll v (writesGiven items) (s .cells); aside = s .aside })
-        (record { count = v; cells = s .cells; aside = setAside n (writesGiven items) (s .aside) })
+    go : (b : Bool) → cond b (record { count = v; cells = madeAll v (writesGiven items) (s .cells); aside = s .aside; won = s .won })
+        (record { count = v; cells = s .cells; aside = setAside n (writesGiven items) (s .aside); won = s .won })
         ≡ runStep v s (effect (cond b (plain (writesGiven items)) (numbered n (writesGiven items))))
     go true = refl
     go false = refl
-accept-step log v s (commits n items) = refl
+accept-step log v s (commits n items a b) = refl
 accept-step log v s (decides o x) = refl
 accept-step log v s (saves r table o) = refl
 
@@ -132,7 +143,7 @@ made-kept v (w ∷ ws) cells o k = go (ofCell o k w) (made-kept v ws (written v 
 step-kept : (log : Log) (p : ℕ) (e : Effect) (o k : ℕ) → Kept (p + 1) (any (ofCell o k) (stampedBy log p e)) (run log p .cells o k) (cellsAfter (p + 1) (run log p) e o k)
 step-kept log p (writes ws) o k = made-kept (p + 1) ws (run log p .cells) o k
 step-kept log p (aside n ws) o k = kept refl
-step-kept log p (tries n c) o k = go (current (run log p .cells) (c .reads))
+step-kept log p (tries n c) o k = go (commitsNow (run log p) c)
   where
     wrote : List Write → Type 0
     wrote ws = Kept (p + 1) (any (ofCell o k) ws) (run log p .cells o k) (madeAll (p + 1) (run log p .aside n) (run log p .cells) o k)

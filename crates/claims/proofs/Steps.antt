@@ -2,8 +2,8 @@
 -- a decision record says of a commit record is the run's outcome. By induction over the entries played.
 use Prim.Native.Nat.{ℕ, zero, suc, _+_, _<_, _^_}
 use mathlib.Core.Path.{_≡_, refl, ap, ap₂, sym, _∙_}
-use mathlib.Core.Bool.{Bool, true, false, cond, _&&_}
-use mathlib.Core.List.{List, [], _∷_}
+use mathlib.Core.Bool.{Bool, true, false, cond, _&&_, _||_}
+use mathlib.Core.List.{List, [], _∷_, map}
 use mathlib.Core.Option.{Option, none, some}
 use native.Mathlib.Omega.{arith}
 use native.Mathlib.Nat.{add-suc, add-zero}
@@ -11,17 +11,18 @@ use borrow.Author.Tests.{eqb-true, leb-false}
 use lib.Dec.{eqb, leb}
 use lib.ListN.{length}
 use Rattle.lists.specs.Tests.{and-l, and-r, or-l, or-r, clash}
-use Rattle.lists.specs.Sets.{all, mem, meets, within, ascendingSet, any-set}
-use Rattle.model.specs.Objects.{Shape}
-use Rattle.model.specs.Entries.{Decision, Write, Read, Condition, Entry, plain, numbered, commit, decision, checkpoint, blank, Effect, writes, aside, tries, inert, effect, Log, writtenObjects, readObjects, writesOf, outcomeAfter, decided, headerObjects}
+use Rattle.lists.specs.Sets.{all, isEmpty, mem, meets, within, ascendingSet, any-set}
+use Rattle.model.specs.Objects.{Shape, ids}
+use Rattle.model.specs.Entries.{Decision, Write, Read, Condition, Entry, plain, numbered, commit, decision, checkpoint, blank, Effect, writes, aside, tries, inert, effect, Log, writtenObjects, readObjects, named, writesOf, outcomeAfter, decided, headerObjects}
 use Rattle.model.specs.Slot.{okShape}
 use Rattle.model.specs.Rules.{okWrite}
 use Rattle.model.specs.Table.{Cell, Holds, lookup, apply, versionIn}
-use Rattle.model.specs.Play.{Played, going, waits, lacks, commitsOver, alone, saysCommit, outcome, make, finish, act, step, andThen, play}
-use Rattle.model.specs.Run.{current, madeAll}
+use Rattle.model.specs.Play.{Played, going, waits, lacks, commitsOver, whole, alone, saysCommit, outcome, make, finish, act, step, andThen, play}
+use Rattle.model.specs.Run.{current, commitsNow, madeAll}
 use Rattle.model.specs.Histories.{cellsWritten}
 use Rattle.claims.proofs.Cells.{Shown, nothing-shown, how-many, all-writes}
 use Rattle.claims.proofs.Runs.{cellsAfter, run, run-start, aside-run, cells-run, commitsAt, version-same}
+use Rattle.claims.proofs.Whole.{names-tested, whole-won}
 
 pub start-shown : (sh : Shape) (log : Log) (set : List ℕ) → Shown sh set [] (run log 0 .cells)
 start-shown sh log set = rw (run-start log) (nothing-shown sh set)
@@ -37,13 +38,19 @@ none-applied set v (w ∷ ws) cs h =
 -- ---- the player's test of reads is the run's
 
 pub reads-same : (sh : Shape) (set : List ℕ) (rs : List Read) (cs : List Cell) (cells : Holds) → Shown sh set cs cells
-    → within set (readObjects (record { reads = rs })) ≡ true → commitsOver (lookup cs) (record { reads = rs }) ≡ current cells rs
-unfolding commitsOver
+    → within set (map (λ (r : Read). r .object) rs) ≡ true → all (λ (r : Read). eqb (versionIn (lookup cs r.object r.key)) r.version) rs ≡ current cells rs
 reads-same sh set [] cs cells s h = refl
 reads-same sh set (r ∷ rs) cs cells s h =
-    let m : mem r.object set ≡ true = and-l (mem r.object set) (within set (readObjects (record { reads = rs }))) h in
+    let m : mem r.object set ≡ true = and-l (mem r.object set) (within set (map (λ (r : Read). r .object) rs)) h in
     ap₂ (λ (a b : Bool). a && b) (ap (λ x. eqb (versionIn x) r.version) (s .reads (r .object) (r .key) m) ∙ version-same (r .version) (cells r.object r.key))
-    (reads-same sh set rs cs cells s (and-r (mem r.object set) (within set (readObjects (record { reads = rs }))) h))
+    (reads-same sh set rs cs cells s (and-r (mem r.object set) (within set (map (λ (r : Read). r .object) rs)) h))
+
+-- and so is its test of the whole record, the named outcomes being the run's
+pub commits-run : (sh : Shape) (log : Log) (set : List ℕ) (p : ℕ) (cs : List Cell) (c : Condition) → Shown sh set cs (run log p .cells) → within set (readObjects c) ≡ true
+    → commitsOver (lookup cs) (whole log p .won) c ≡ commitsNow (run log p) c
+unfolding commitsOver
+commits-run sh log set p cs c s h =
+    ap₂ (λ (a b : Bool). a && b) (reads-same sh set (c .reads) cs (run log p .cells) s h) (names-tested (whole log p .won) (run log p .won) (named c) (whole-won log p))
 
 -- ---- what decision records say
 
@@ -68,27 +75,29 @@ decided-true log (suc t) q v tr h = go (λ h′. decided-true log t q v (λ d l.
     go ih (checkpoint o cs) e h′ = ih h′
     go ih blank e h′ = ih h′
 
--- what a decision record says of the commit record at p is the run's outcome, where the reads are not all hosted
+-- what a decision record says of the commit record at p is the run's outcome, where the replica does not decide it by itself
 abbrev pub Trust : Shape → Log → List ℕ → ℕ → Type 0
 Trust sh log set p = (n : ℕ) (c : Condition) → effect (log .entry p) ≡ tries n c → alone sh set c ≡ false
-    → (b : Bool) → saysCommit (decided log p (log .tail)) ≡ some b → b ≡ current (run log p .cells) (c .reads)
+    → (b : Bool) → saysCommit (decided log p (log .tail)) ≡ some b → b ≡ commitsNow (run log p) c
 
 pub trust : (sh : Shape) (log : Log) (set : List ℕ) (p : ℕ) → TrueBelow log (log .tail) → Trust sh log set p
 trust sh log set p tr n c e w b h = go (decided log p (log .tail)) refl h
   where
-    go : (x : Option ℕ) → decided log p (log .tail) ≡ x → saysCommit x ≡ some b → b ≡ current (run log p .cells) (c .reads)
+    go : (x : Option ℕ) → decided log p (log .tail) ≡ x → saysCommit x ≡ some b → b ≡ commitsNow (run log p) c
     go none i j = clash true refl cc
     go (some v) i j = let k : eqb v 1 ≡ b = cc in sym k ∙ decided-true log (log .tail) p v tr i ∙ rw e
 
 -- a replica's outcome of the commit record at p, where it has one, is the run's
 pub outcome-true : (sh : Shape) (log : Log) (set : List ℕ) (p : ℕ) (cs : List Cell) (n : ℕ) (c : Condition) (b : Bool)
     → Trust sh log set p → Shown sh set cs (run log p .cells) → effect (log .entry p) ≡ tries n c
-    → outcome sh log set p cs c ≡ some b → b ≡ current (run log p .cells) (c .reads)
+    → outcome sh log set p cs c ≡ some b → b ≡ commitsNow (run log p) c
 outcome-true sh log set p cs n c b tr s e h = go (alone sh set c) refl h
   where
-    go : (a : Bool) → alone sh set c ≡ a → cond a (some (commitsOver (lookup cs) c)) (saysCommit (decided log p (log .tail))) ≡ some b
-        → b ≡ current (run log p .cells) (c .reads)
-    go true a i = let k : commitsOver (lookup cs) c ≡ b = cc in sym k ∙ reads-same sh set (c .reads) cs (run log p .cells) s a
+    go : (a : Bool) → alone sh set c ≡ a → cond a (some (commitsOver (lookup cs) (whole log p .won) c)) (saysCommit (decided log p (log .tail))) ≡ some b
+        → b ≡ commitsNow (run log p) c
+    go true a i =
+        let k : commitsOver (lookup cs) (whole log p .won) c ≡ b = cc in
+        sym k ∙ commits-run sh log set p cs c s (and-l (within set (readObjects c)) (isEmpty (named c) || within set (ids sh)) a)
     go false a i = tr n c e a b i
 
 -- ---- a step
@@ -131,11 +140,11 @@ module _ (sh : Shape) (shape : okShape sh ≡ true) (log : Log) (set : List ℕ)
     plain-ok ws e true m = make-ok ws (after (writes ws) e _ (made ws (placed .now ws e)))
     plain-ok ws e false m = after (writes ws) e cs (passed ws (placed .now ws e) m)
 
-    commit-after : (n : ℕ) (c : Condition) → effect (log .entry p) ≡ tries n c → (b : Bool) → b ≡ current (run log p .cells) (c .reads) → (cs′ : List Cell)
+    commit-after : (n : ℕ) (c : Condition) → effect (log .entry p) ≡ tries n c → (b : Bool) → b ≡ commitsNow (run log p) c → (cs′ : List Cell)
         → Shown sh set cs′ (cond b (madeAll (p + 1) (writesOf log n p) (run log p .cells)) (run log p .cells)) → Inv (suc p) cs′
     commit-after n c e b i cs′ s = after (tries n c) e cs′ (rw (← i, aside-run log n p) s)
 
-    finish-ok : (n : ℕ) (c : Condition) → effect (log .entry p) ≡ tries n c → (v : Option Bool) → ((b : Bool) → v ≡ some b → b ≡ current (run log p .cells) (c .reads))
+    finish-ok : (n : ℕ) (c : Condition) → effect (log .entry p) ≡ tries n c → (v : Option Bool) → ((b : Bool) → v ≡ some b → b ≡ commitsNow (run log p) c)
         → Ok (suc p) (finish set room p (writesOf log n p) cs v)
     finish-ok n c e none t = (omega arith, inv)
     finish-ok n c e (some true) t = make-ok (writesOf log n p) (commit-after n c e true (t true refl) _ (made (writesOf log n p) (placed .late n)))
@@ -144,7 +153,7 @@ module _ (sh : Shape) (shape : okShape sh ≡ true) (log : Log) (set : List ℕ)
     commit-ok : (n : ℕ) (c : Condition) → effect (log .entry p) ≡ tries n c → (m : Bool) → meets set (ascendingSet (writtenObjects (writesOf log n p))) ≡ m
         → Ok (suc p) (cond m (finish set room p (writesOf log n p) cs (outcome sh log set p cs c)) (going cs))
     commit-ok n c e true m = finish-ok n c e (outcome sh log set p cs c) (λ b h. outcome-true sh log set p cs n c b tr inv e h)
-    commit-ok n c e false m = commit-after n c e (current (run log p .cells) (c .reads)) refl cs (go (current (run log p .cells) (c .reads)))
+    commit-ok n c e false m = commit-after n c e (commitsNow (run log p) c) refl cs (go (commitsNow (run log p) c))
       where
         go : (b : Bool) → Shown sh set cs (cond b (madeAll (p + 1) (writesOf log n p) (run log p .cells)) (run log p .cells))
         go true = passed (writesOf log n p) (placed .late n) m

@@ -1,9 +1,9 @@
 -- Where a play waits: a step waits exactly where its entry is blocked, so a play stops at the first blocked entry, or before it
 -- for lack of room. By cases of the entry, then by induction over the entries played.
 use Prim.Native.Nat.{ℕ, zero, suc, _+_, _-_, _<_, _≤_}
-use mathlib.Core.Path.{_≡_, refl, ap, sym, _∙_}
+use mathlib.Core.Path.{_≡_, refl, ap, sym}
 use mathlib.Core.Bool.{Bool, true, false, cond, not, _&&_}
-use mathlib.Core.List.{List, [], _∷_}
+use mathlib.Core.List.{List}
 use mathlib.Core.Option.{Option, none, some}
 use native.Mathlib.Omega.{arith}
 use native.Mathlib.Nat.{add-suc}
@@ -11,17 +11,17 @@ use borrow.Author.Tests.{eqb-true, eqb-false, not-true}
 use lib.Dec.{eqb, leb}
 use lib.ListN.{length}
 use Rattle.lists.specs.Tests.{ands, both, clash}
-use Rattle.lists.specs.Sets.{all, mem, meets}
-use Rattle.lists.specs.Members.{all-false, false-all}
+use Rattle.lists.specs.Sets.{meets}
 use Rattle.model.specs.Objects.{Shape}
-use Rattle.model.specs.Entries.{Write, Read, Entry, plain, numbered, commit, decision, checkpoint, blank, effect, Log, writesOf, commitIn, commitObjects, ifSome, isNone, decided, headerObjects}
+use Rattle.model.specs.Entries.{Write, Entry, plain, numbered, commit, decision, checkpoint, blank, effect, Log, writesOf, commitIn, commitObjects, ifSome, isNone, decided, headerObjects}
 use Rattle.model.specs.Table.{Cell, lookup, apply}
-use Rattle.model.specs.Play.{Played, going, waits, lacks, commitsOver, alone, waitsAt, saysCommit, make, finish, act, step, andThen, play}
+use Rattle.model.specs.Play.{Played, going, waits, lacks, commitsOver, whole, alone, waitsAt, saysCommit, make, finish, act, step, andThen, play}
 use Rattle.model.specs.Replica.{plainly, leftBy}
 use Rattle.model.specs.Histories.{isRefused}
 use Rattle.model.specs.Terms.{Blocked, Ended, there, waiting, noRoom}
 use Rattle.model.specs.Claims.{Waiting}
 use Rattle.model.specs.Worked.{code}
+use Rattle.claims.proofs.Names.{outside-words, words-outside}
 use Rattle.claims.proofs.Terms.{concerns-words, words-concerns, undecided-words, words-undecided}
 
 -- what a step at p says of whether the entry there is blocked
@@ -60,24 +60,19 @@ waitsBy sh log set p e =
 -- ---- in words
 
 module _ (sh : Shape) (log : Log) (set : List ℕ) where
-  reads-hosted : (xs : List Read) → alone sh set (record { reads = xs }) ≡ all (λ (x : Read). mem x.object set) xs
-  reads-hosted [] = refl
-  reads-hosted (x ∷ xs) = ap (λ (b : Bool). mem x.object set && b) (reads-hosted xs)
-
-  pub waits-words : (q : ℕ) → waitsAt sh log set q ≡ true → Blocked log set q
+  pub waits-words : (q : ℕ) → waitsAt sh log set q ≡ true → Blocked sh log set q
   unfolding waitsAt headerObjects
   waits-words q h = go (log .entry q) refl h
     where
-      go : (e : Entry) → log .entry q ≡ e → waitsBy sh log set q e ≡ true → Blocked log set q
+      go : (e : Entry) → log .entry q ≡ e → waitsBy sh log set q e ≡ true → Blocked sh log set q
       go (commit n c) i k =
           let far : not (alone sh set c) ≡ true = search ands in
-          let (x, m, o) = all-false (λ (x : Read). mem x.object set) (c .reads) (sym (reads-hosted (c .reads)) ∙ not-true (alone sh set c) far) in
           record {
             number = n;
             condition = c;
             here = i;
             concerns = concerns-words log set n q (search ands);
-            outside = (x, m, o);
+            outside = outside-words sh set c (not-true (alone sh set c) far);
             undecided = undecided-words log q (log .tail) (search ands);
           }
       go (plain ws) i k = clash false k refl
@@ -86,11 +81,10 @@ module _ (sh : Shape) (log : Log) (set : List ℕ) where
       go (checkpoint o cs) i k = clash false k refl
       go blank i k = clash false k refl
 
-  pub words-waits : (q : ℕ) → Blocked log set q → waitsAt sh log set q ≡ true
+  pub words-waits : (q : ℕ) → Blocked sh log set q → waitsAt sh log set q ≡ true
   unfolding waitsAt headerObjects
   words-waits q b =
-      let (x, m, o) = b .outside in
-      let far : alone sh set (b .condition) ≡ false = reads-hosted (b .condition .reads) ∙ false-all (λ (x : Read). mem x.object set) x (b .condition .reads) m o in
+      let far : alone sh set (b .condition) ≡ false = words-outside sh set (b .condition) (b .outside) in
       rw (b .here) (both (both (words-concerns log set (b .number) q (b .concerns)) (ap not far)) (words-undecided log q (log .tail) (b .undecided)))
 
 -- ---- steps and plays
@@ -109,7 +103,7 @@ module _ (sh : Shape) (log : Log) (set : List ℕ) (room : ℕ) where
       go false = refl
   entry-wait p cs (numbered n ws) = idle-wait set room p cs (meets set (headerObjects log p (numbered n ws)))
   entry-wait p cs (commit n c) =
-      commit-wait set room p cs (writesOf log n p) (meets set (commitObjects log p n)) (alone sh set c) (commitsOver (lookup cs) c) (decided log p (log .tail))
+      commit-wait set room p cs (writesOf log n p) (meets set (commitObjects log p n)) (alone sh set c) (commitsOver (lookup cs) (whole log p .won) c) (decided log p (log .tail))
   entry-wait p cs (decision r) = idle-wait set room p cs (meets set (headerObjects log p (decision r)))
   entry-wait p cs (checkpoint o xs) = idle-wait set room p cs (meets set (headerObjects log p (checkpoint o xs)))
   entry-wait p cs blank = idle-wait set room p cs (meets set (headerObjects log p blank))
@@ -150,13 +144,13 @@ module _ (sh : Shape) (log : Log) (set : List ℕ) (room : ℕ) where
 
   -- what a play to a stop leaves is as demanded
   pub play-waits : (fit : Type 0) → fit → (hosting p stop : ℕ) (table : List ℕ) (cs : List Cell) → p ≤ stop
-      → Waiting fit log set p stop (leftBy hosting stop table (play sh log set room p cs (stop - p)))
+      → Waiting sh fit log set p stop (leftBy hosting stop table (play sh log set room p cs (stop - p)))
   play-waits fit f hosting p stop table cs l = go (play sh log set room p cs (stop - p)) (play-wait p cs (stop - p))
     where
-      clear : (q : ℕ) → blocked q ≡ false → Blocked log set q → ⊥
+      clear : (q : ℕ) → blocked q ≡ false → Blocked sh log set q → ⊥
       clear q e b = clash (blocked q) (words-waits sh log set q b) e
 
-      go : (x : Played) → PlayWait p (stop - p) x → Waiting fit log set p stop (leftBy hosting stop table x)
+      go : (x : Played) → PlayWait p (stop - p) x → Waiting sh fit log set p stop (leftBy hosting stop table x)
       go (going u) w = record {
         exactly = ((λ e. clash true refl (ap isRefused (sym e))), (λ h. absurd (omega (arith, h .1))));
         passes = λ f q a b k. clear q (w .1 q a (omega arith)) k;
@@ -173,7 +167,7 @@ module _ (sh : Shape) (log : Log) (set : List ℕ) (room : ℕ) where
         notBack = λ f. w .2 .0;
       }
         where
-          thirteen : plainly 13 ≡ plainly 12 → fit × (q < stop) × Blocked log set q
+          thirteen : plainly 13 ≡ plainly 12 → fit × (q < stop) × Blocked sh log set q
           thirteen e = absurd (let n : 13 ≡ 12 = ap code e in omega arith)
 
   -- and it ends

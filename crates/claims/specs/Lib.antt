@@ -1,3 +1,4 @@
 pub mod Met
+pub mod Named
 pub mod Order
 pub mod Orders

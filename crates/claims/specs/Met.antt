@@ -12,17 +12,17 @@ use Rattle.lists.specs.Rows.{values, joined}
 use Rattle.lists.specs.First.{first, firstFrom}
 use Rattle.lists.specs.Equal.{eqList}
 use Rattle.model.specs.Objects.{theLayout, depots, isObject, isCell, hosted}
-use Rattle.model.specs.Entries.{Held, writesOf, stamps, astray, closed, decided, headerObjects, numberOf, earlier}
-use Rattle.model.specs.Slot.{writeBytes, writeAt, readBytes, readAt, savedBytes, savedAt, itemBytes, itemCount, headerOf, slotOf, decode, slot, logIn, objectsIn}
-use Rattle.model.specs.Rules.{okEntry, lowest, lowestBad, okWrite, okWrites, okRead, okReads, okSaved, narrow, goodAt, repeats}
+use Rattle.model.specs.Entries.{Held, writesOf, stamps, astray, closed, decided, headerObjects, earlier, named}
+use Rattle.model.specs.Slot.{writeBytes, writeAt, readBytes, readAt, savedBytes, savedAt, itemBytes, itemCount, headerOf, slotOf, decode, slot, logIn, objectsIn, lastBytes}
+use Rattle.model.specs.Rules.{okEntry, lowest, lowestBad, okWrite, okWrites, okRead, okReads, okSaved, narrow, goodAt, repeats, okNames}
 use Rattle.model.specs.Table.{Cell, cellAt, cellBytes, cellsOf, tableWith, apply, savedOf, lookup, inOrder, store}
-use Rattle.model.specs.Play.{play, commitsOver, step}
+use Rattle.model.specs.Play.{play, commitsOver, whole, step}
 use Rattle.model.specs.Answers.{Answer, done, firstPlace, badFrame}
-use Rattle.model.specs.Append.{Request, update, commits, decides, saves, conditionGiven, entryOf, ownTests, append}
+use Rattle.model.specs.Append.{Request, update, decides, saves, conditionGiven, entryOf, ownTests, append}
 use Rattle.model.specs.Replica.{Left, plainly, openFresh, openAt, playCall, readCell, audit}
-use Rattle.model.specs.Run.{Fed, Run, start, current, accept, runAt}
+use Rattle.model.specs.Run.{Fed, Run, start, commitsNow, accept, runAt}
 use Rattle.model.specs.Histories.{Lent, isRefused, inLog, appendTo, grown, feed, empty, History, wholeLog, stood, ranTo, Passed, Carried, carried, ifOpened, fresh, atCheckpoint, opened, Play, played, plays, shown}
-use Rattle.model.specs.Worked.{put, read, cell}
+use Rattle.model.specs.Worked.{put, read, commitOf, cell}
 
 -- a table with room for two cells
 abbrev pub table : List ℕ
@@ -38,7 +38,7 @@ left = record { version = 3; content = some 6 }
 
 -- no update has the number 11
 abbrev pub unasked : Request
-unasked = commits 11 []
+unasked = commitOf 11 []
 
 -- a checkpoint of object 5 by a replica of everything
 abbrev pub saved : Request
@@ -48,7 +48,7 @@ saved = saves (record { hosting = 255; position = 3; count = 1 }) (holding (cell
 abbrev pub met : History
 met = record {
   bytes = replicate (theLayout .slotSize * 6) 7;
-  requests = update 9 (put 5 1 6) ∷ update 10 (put 5 1 7) ∷ unasked ∷ commits 9 (read 2 7 0) ∷ saved ∷ decides 2 1 ∷ commits 10 (read 5 1 0) ∷ [];
+  requests = update 9 (put 5 1 6) ∷ update 10 (put 5 1 7) ∷ unasked ∷ commitOf 9 (read 2 7 0) ∷ saved ∷ decides 2 1 ∷ commitOf 10 (read 5 1 0) ∷ [];
 }
 
 -- ---- the log (what a `let` binds is computed once, and the calls of the demands are the same without it)
@@ -75,8 +75,8 @@ abbrev pub taken : Request → Fed
 taken q = record { request = q; wasRefused = false }
 
 abbrev pub fed : List Fed
-fed = taken (update 9 (put 5 1 6)) ∷ taken (update 10 (put 5 1 7)) ∷ record { request = unasked; wasRefused = true } ∷ taken (commits 9 (read 2 7 0))
-    ∷ taken saved ∷ taken (decides 2 1) ∷ taken (commits 10 (read 5 1 0)) ∷ []
+fed = taken (update 9 (put 5 1 6)) ∷ taken (update 10 (put 5 1 7)) ∷ record { request = unasked; wasRefused = true } ∷ taken (commitOf 9 (read 2 7 0))
+    ∷ taken saved ∷ taken (decides 2 1) ∷ taken (commitOf 10 (read 5 1 0)) ∷ []
 
 -- of the seven appends only the third is refused
 pub feeds : feed depots (empty (met .bytes)) (met .requests) ≡ fed
@@ -87,13 +87,13 @@ ran : (p : ℕ) → ranTo depots met p ≡ runAt p start fed
 ran p = ap (runAt p start) feeds
 
 -- number 9 commits at 2, and number 10 aborts at 5
-pub nine-commits : current (ranTo depots met 2 .cells) (conditionGiven (read 2 7 0) .reads) ≡ true
+pub nine-commits : commitsNow (ranTo depots met 2) (conditionGiven (read 2 7 0) 0 0) ≡ true
 unfolding beAt bytesOf splice values joined first firstFrom eqList writesOf stamps astray closed decided headerObjects repeats objectsIn earlier writeBytes writeAt readBytes readAt savedBytes savedAt itemBytes itemCount headerOf slotOf lastBytes decode slot logIn okEntry lowest lowestBad cellAt cellBytes cellsOf tableWith apply savedOf play commitsOver whole named entryOf firstPlace ownTests append openFresh openAt playCall readCell audit accept runAt grown feed isObject isCell hosted okWrite okWrites okRead okReads okNames okSaved narrow goodAt lookup inOrder store step badFrame
-nine-commits = ap (λ (s : Run). current (s .cells) (conditionGiven (read 2 7 0) .reads)) (ran 2)
+nine-commits = ap (λ (s : Run). commitsNow s (conditionGiven (read 2 7 0) 0 0)) (ran 2)
 
-pub ten-aborts : current (ranTo depots met 5 .cells) (conditionGiven (read 5 1 0) .reads) ≡ false
+pub ten-aborts : commitsNow (ranTo depots met 5) (conditionGiven (read 5 1 0) 0 0) ≡ false
 unfolding beAt bytesOf splice values joined first firstFrom eqList writesOf stamps astray closed decided headerObjects repeats objectsIn earlier writeBytes writeAt readBytes readAt savedBytes savedAt itemBytes itemCount headerOf slotOf lastBytes decode slot logIn okEntry lowest lowestBad cellAt cellBytes cellsOf tableWith apply savedOf play commitsOver whole named entryOf firstPlace ownTests append openFresh openAt playCall readCell audit accept runAt grown feed isObject isCell hosted okWrite okWrites okRead okReads okNames okSaved narrow goodAt lookup inOrder store step badFrame
-ten-aborts = ap (λ (s : Run). current (s .cells) (conditionGiven (read 5 1 0) .reads)) (ran 5)
+ten-aborts = ap (λ (s : Run). commitsNow s (conditionGiven (read 5 1 0) 0 0)) (ran 5)
 
 ran-left : runAt 6 start fed .cells 5 1 ≡ some left
 unfolding beAt bytesOf splice values joined first firstFrom eqList writesOf stamps astray closed decided headerObjects repeats objectsIn earlier writeBytes writeAt readBytes readAt savedBytes savedAt itemBytes itemCount headerOf slotOf lastBytes decode slot logIn okEntry lowest lowestBad cellAt cellBytes cellsOf tableWith apply savedOf play commitsOver whole named entryOf firstPlace ownTests append openFresh openAt playCall readCell audit accept runAt grown feed isObject isCell hosted okWrite okWrites okRead okReads okNames okSaved narrow goodAt lookup inOrder store step badFrame

@@ -11,11 +11,11 @@ use Rattle.lists.specs.Rows.{values, joined}
 use Rattle.lists.specs.First.{first, firstFrom}
 use Rattle.lists.specs.Equal.{eqList}
 use Rattle.model.specs.Objects.{depots, isObject, isCell, hosted}
-use Rattle.model.specs.Entries.{writesOf, stamps, astray, closed, decided, headerObjects, earlier}
-use Rattle.model.specs.Slot.{writeBytes, writeAt, readBytes, readAt, savedBytes, savedAt, itemBytes, itemCount, headerOf, slotOf, decode, slot, logIn, objectsIn}
-use Rattle.model.specs.Rules.{okEntry, lowest, lowestBad, okWrite, okWrites, okRead, okReads, okSaved, narrow, goodAt, repeats}
+use Rattle.model.specs.Entries.{writesOf, stamps, astray, closed, decided, headerObjects, earlier, named}
+use Rattle.model.specs.Slot.{writeBytes, writeAt, readBytes, readAt, savedBytes, savedAt, itemBytes, itemCount, headerOf, slotOf, decode, slot, logIn, objectsIn, lastBytes}
+use Rattle.model.specs.Rules.{okEntry, lowest, lowestBad, okWrite, okWrites, okRead, okReads, okSaved, narrow, goodAt, repeats, okNames}
 use Rattle.model.specs.Table.{Cell, cellAt, cellBytes, cellsOf, tableWith, apply, savedOf, lookup, inOrder, store}
-use Rattle.model.specs.Play.{play, commitsOver, step}
+use Rattle.model.specs.Play.{play, commitsOver, whole, step}
 use Rattle.model.specs.Answers.{firstPlace, badFrame}
 use Rattle.model.specs.Append.{Replica, Request, update, entryOf, ownTests, append}
 use Rattle.model.specs.Replica.{openFresh, playCall, readCell, audit}
