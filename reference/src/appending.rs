@@ -1,6 +1,7 @@
 //! Stored vectors of the appends: a log, the requests made on it one after the other, and what must come of each.
 //! The format stands at the head of `src/vectors.rs`.
 
+pub mod after;
 pub mod astray;
 pub mod checkpoints;
 pub mod fields;
@@ -51,6 +52,7 @@ impl Case {
 pub fn appending() -> Vec<Case> {
     let mut cases = named();
     cases.extend(histories::cases());
+    cases.extend(histories::naming());
     cases
 }
 
@@ -62,6 +64,7 @@ pub fn named() -> Vec<Case> {
     cases.extend(checkpoints::cases());
     cases.extend(lent::cases());
     cases.extend(astray::cases());
+    cases.extend(after::cases());
     cases
 }
 
@@ -170,10 +173,16 @@ pub fn request_bytes(request: &Request) -> Vec<u8> {
             bytes.extend(number.to_be_bytes());
             extend_counted(&mut bytes, items);
         }
-        Request::Commit { number, reads } => {
+        Request::Commit {
+            number,
+            reads,
+            names,
+        } => {
             bytes.extend(2_u32.to_be_bytes());
             bytes.extend(number.to_be_bytes());
             extend_counted(&mut bytes, reads);
+            bytes.extend(names.first.to_be_bytes());
+            bytes.extend(names.second.to_be_bytes());
         }
         Request::Decision { offset, outcome } => {
             bytes.extend(3_u32.to_be_bytes());

@@ -2,7 +2,7 @@
 
 use crate::answer::{refuse, refuse_at, Answer, Refusal, FALSE_RECORD, NO_ROOM, WAITING};
 use crate::log::pass;
-use crate::replica::{Player, Record, Step};
+use crate::replica::{Player, Record, Step, Whole};
 use crate::slot::{slot_at, Kind, Slot, COMMIT};
 
 /// What an audit found and left.
@@ -43,10 +43,11 @@ fn play_all(
 ) -> Result<(), Refusal> {
     let (directory, earlier) = pass(dir, log, tail)?;
     audited.record.hosted = directory.everything();
-    audited.committed = vec![false; tail];
     let mut player = Player::new(&directory, log, &earlier, &audited.record, scratch, tail);
-    let answer = play_entries(log, tail, &mut player, audited);
+    player.whole = Whole::noted(tail);
+    let answer = play_entries(log, tail, &mut player, &mut audited.record);
     audited.record.count = player.count as u64;
+    audited.committed = (0..tail).map(|at| player.whole.commits(at)).collect();
     player.settle();
     answer
 }
@@ -55,33 +56,32 @@ fn play_entries(
     log: &[u8],
     tail: usize,
     player: &mut Player,
-    audited: &mut Audited,
+    record: &mut Record,
 ) -> Result<(), Refusal> {
     let mut lowest_false = None;
     for at in 0..tail {
-        if lowest_false.is_none() && !as_played(log, at, player, &audited.committed) {
+        if lowest_false.is_none() && !as_played(log, at, player) {
             lowest_false = Some(at);
         }
         match player.step(at) {
-            Step::Commits => audited.committed[at] = true,
-            Step::Passed | Step::Aborts => {}
+            Step::Passed | Step::Commits | Step::Aborts => {}
             // 13 tells the entry's offset (11.2)
             Step::LacksRoom => return refuse_at(NO_ROOM, at),
-            // It hosts every object that a good log reads, so it never waits.
+            // It hosts every object, so it decides every commit record alone and never waits.
             Step::Waits => return refuse(WAITING),
         }
-        audited.record.position = at as u64 + 1;
+        record.position = at as u64 + 1;
     }
     lowest_false.map_or(Ok(()), |at| refuse_at(FALSE_RECORD, at))
 }
 
 /// Whether the entry is a false record (11.3, 11.4). The player is just below it.
-fn as_played(log: &[u8], at: usize, player: &Player, committed: &[bool]) -> bool {
+fn as_played(log: &[u8], at: usize, player: &Player) -> bool {
     let slot = slot_at(log, at);
     match slot.kind() {
         Some(Kind::Decision) => {
             let verdict = slot.verdict();
-            (verdict.outcome == COMMIT) == committed[verdict.commit as usize]
+            (verdict.outcome == COMMIT) == player.whole.commits(verdict.commit as usize)
         }
         Some(Kind::Checkpoint) => checkpoint_as_played(slot, player),
         _ => true,

@@ -13,6 +13,7 @@ use crate::playing::Case;
 pub fn auditing() -> Vec<Case> {
     let mut cases = named();
     cases.extend(histories::cases());
+    cases.extend(histories::naming());
     cases
 }
 

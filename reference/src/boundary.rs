@@ -1,6 +1,6 @@
 //! The seventeen calls as the C interface has them: numbers and lent bytes in, a number and `out` back.
 //!
-//! What `out` has on every return is said in 14.3 of docs/SPECIFICATION.md. The entry call alone uses `out[4]` to `out[7]`.
+//! What `out` has on every return is said in 14.3 of docs/SPECIFICATION.md. The entry call alone has `out[4]` to `out[7]`.
 
 use crate::answer::Answer;
 use crate::append;
@@ -63,7 +63,7 @@ pub fn owed(dir: &[u8], log: &[u8], tail: usize, sets: &[u64]) -> Said {
     })
 }
 
-/// Kind, number, headers, what is told, items.
+/// Kind, number, headers, what is told, items, the two numbers in the last eight bytes.
 pub fn entry(dir: &[u8], log: &[u8], tail: usize, offset: u64) -> Said {
     let answer = log::entry(dir, log, tail, offset);
     let mut said = said(answer, |entry| {
@@ -73,7 +73,11 @@ pub fn entry(dir: &[u8], log: &[u8], tail: usize, offset: u64) -> Said {
             entry.headers as u64,
         ]
     });
-    said.out[4] = answer.done().map_or(0, |entry| entry.items as u64);
+    if let Answer::Done(entry) = answer {
+        said.out[4] = entry.items as u64;
+        said.out[5] = u64::from(entry.names.first);
+        said.out[6] = u64::from(entry.names.second);
+    }
     said
 }
 

@@ -9,7 +9,7 @@ use crate::header::Header;
 use crate::log::pass;
 use crate::objects::objects as objects_of_eight;
 use crate::sample::*;
-use crate::slot::{write_slot, Kind, Saved, Verdict, ABORT, COMMIT, SLOT};
+use crate::slot::{write_slot, Kind, Names, Saved, Verdict, ABORT, COMMIT, SLOT};
 use crate::table::Row;
 
 /// Adds a slot with the right pointers, whatever the other rules say of it.
@@ -20,7 +20,8 @@ fn forge(log: &mut Vec<u8>, kind: Kind, number: u32, objects: u64, items: &[u8])
         .map(|place| Header::made(objects_of_eight()[place].id, tail, earlier.nearest(place)))
         .collect();
     log.resize(log.len() + SLOT, 0);
-    write_slot(slot_mut(log, tail), kind, number, &headers, items);
+    let slot = slot_mut(log, tail);
+    write_slot(slot, kind, number, &headers, items, Names::NONE);
 }
 
 /// A growing list of logs with one rule broken at a known entry.
@@ -91,6 +92,7 @@ pub fn broken() -> Vec<Case> {
     break_distances(&mut breaker);
     break_update(&mut breaker);
     break_commit(&mut breaker);
+    break_names(&mut breaker);
     break_closed(&mut breaker);
     break_decision(&mut breaker);
     break_checkpoint(&mut breaker);
@@ -268,7 +270,39 @@ fn break_commit(breaker: &mut Breaker) {
     breaker.long("version, fourth byte", 80, 1 << 32);
     breaker.byte("commit of thirteen reads", 3, 13);
     breaker.byte("commit with an unused item not zero", 3, 1);
-    breaker.byte("commit with byte 248 not zero", 248, 9);
+}
+
+/// The last eight bytes: numbers that no commit record of 10 may name, and none in other entries.
+fn break_names(breaker: &mut Breaker) {
+    let requests = [
+        update(10, &[put(4, 2, 1)]),
+        commit_after(10, &[], 9, 0),
+        decision(1, COMMIT),
+        checkpoint_of(8, 3, &[]),
+    ];
+    breaker.on(&requests[..2], 1);
+    for (first, second) in [
+        (0, 9),
+        (9, 9),
+        (11, 9),
+        (10, 0),
+        (9, 10),
+        (10, 11),
+        (0, 10),
+        (0, 1 << 24),
+        (u32::MAX, 1),
+        (u32::MAX, u32::MAX),
+    ] {
+        breaker.edit("numbers that may not be named", |slot| {
+            put32(slot, 248, first);
+            put32(slot, 252, second);
+        });
+    }
+    for at in [2, 3] {
+        breaker.on(&requests[..at + 1], at);
+        breaker.byte("only a commit record names", 251, 9);
+        breaker.byte("only a commit record names", 252, 9);
+    }
 }
 
 /// Entries of a closed number, and a transaction of five objects.

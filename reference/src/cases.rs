@@ -120,6 +120,8 @@ pub fn good() -> Vec<Case> {
         whole("false decision and checkpoint", &false_records()),
         whole("the largest numbers", &largest()),
         whole("an astray read", &bench_with(2)),
+        whole("the delivery log", &delivery()),
+        whole("records that name numbers", &naming()),
     ]
 }
 
@@ -233,6 +235,23 @@ fn largest() -> Vec<Request> {
         commit(u32::MAX, &[]),
         commit(1 << 31, &[]),
     ]
+}
+
+/// Numbers named: one and two, the largest, one that nobody uses, one whose commit record comes later; with reads and without.
+fn naming() -> Vec<Request> {
+    let mut requests: Vec<Request> = [5, 6, 7, u32::MAX]
+        .map(|number| update(number, &[put(4, number % 500, 1)]))
+        .to_vec();
+    requests.extend([
+        commit(7, &[]),
+        commit_after(6, &[read(4, 7, 5)], 7, 0),
+        commit_after(u32::MAX, &[read(2, 1, 0)], 6, 7),
+        commit_after(5, &[], 8, u32::MAX),
+        decision(7, ABORT),
+        update(8, &[put(5, 8, 1)]),
+        commit(8, &[]),
+    ]);
+    requests
 }
 
 /// Small random logs of the library's own appends, some with one byte changed.

@@ -8,8 +8,8 @@ use crate::directory::{bytes_of, eight, Directory, HIGHEST_ID, HIGHEST_KEY, MOST
 use crate::log::{check, entry, items, list, next, owed};
 use crate::objects::{Object, Structure};
 use crate::replica::{open_at, open_fresh, play, read_cell, Record};
-use crate::sample::{commit, put, read, update};
-use crate::slot::SLOT;
+use crate::sample::{commit, commit_after, put, read, update};
+use crate::slot::{Names, SLOT};
 use crate::table::{Cell, CELL};
 
 /// What is handed to the calls.
@@ -192,7 +192,52 @@ pub fn directing() -> Vec<Case> {
         }
     }
     cases.extend(records(&clinics, &full));
+    cases.extend(naming());
     cases
+}
+
+/// A transaction of two updates that names another: who hosts every object of the directory decides it alone, whatever it reads. With
+/// one object that is who hosts it.
+fn naming() -> Vec<Case> {
+    let one = bytes_of(&[map(10, 99, false)]);
+    let mut cases = Vec::new();
+    for (dir, place) in [
+        (one, 0),
+        (clinics(), 0),
+        (clinics(), 2),
+        (eight().to_vec(), 1),
+        (many(MOST_RECORDS as u32), 63),
+    ] {
+        let of = Of::new(dir, place);
+        let directory = Directory::of(&of.dir).expect("a directory without fault");
+        let everything = directory.everything();
+        for names in [Names::of(8, 0), Names::of(7, 8)] {
+            let log = naming_log(&directory, (of.object, of.key), names);
+            for hosted in [of.hosted, everything & !1, everything] {
+                cases.push(Case {
+                    log: log.clone(),
+                    hosted,
+                    ..of.case()
+                });
+            }
+        }
+    }
+    cases
+}
+
+/// Number 8 commits; number 9 names it.
+fn naming_log(directory: &Directory, (object, key): (u32, u32), names: Names) -> Vec<u8> {
+    let mut writer = Writer::over(directory.clone(), 5);
+    for request in [
+        update(8, &[put(object, key, 41)]),
+        commit(8, &[]),
+        update(9, &[put(object, key, 42)]),
+        commit_after(9, &[read(object, key, 2)], names.first, names.second),
+    ] {
+        let answer = writer.append(&request);
+        assert!(answer.is_done(), "{request:?} is refused: {answer:?}");
+    }
+    writer.log
 }
 
 /// Sets with a bit past the last record, all and none; objects and keys that are not there; other directories without fault.
@@ -332,7 +377,11 @@ fn reading(text: &mut String, case: &Case) {
     }
     let answer = entry(dir, log, tail, 3).shown(|entry| {
         let kind = entry.kind as u32;
-        format!("{kind} {} {} {}", entry.number, entry.headers, entry.items)
+        let Names { first, second } = entry.names;
+        format!(
+            "{kind} {} {} {} {first} {second}",
+            entry.number, entry.headers, entry.items
+        )
     });
     line(text, &format!("entry {answer}"));
     line(text, &format!("items{}", words(items(dir, log, tail, 3))));

@@ -4,7 +4,8 @@ use crate::append::Request;
 use crate::random::{History, Mix};
 use crate::report::{playlog, LONGEST_INPUT, TABLE_CELLS};
 use crate::sample::{
-    bench, bench_with, checkpoint_of, commit, decision, log_of, put, read, remove, slot_mut, update,
+    bench, bench_with, checkpoint_of, commit, commit_after, decision, delivery, log_of, put, read,
+    remove, slot_mut, update,
 };
 use crate::slot::{Write, ABORT, COMMIT, MOST_ITEMS, SLOT};
 use crate::table::Row;
@@ -33,6 +34,8 @@ pub fn all() -> Vec<Example> {
         example("removed", log_of(&removed())),
         example("transactions", log_of(&transactions())),
         example("checkpoints", log_of(&checkpoints())),
+        example("delivery", log_of(&delivery())),
+        example("deliveries", log_of(&deliveries())),
         example("longest", longest()),
         example("table-full", log_of(&cells(TABLE_CELLS))),
     ];
@@ -51,12 +54,16 @@ fn refused() -> Vec<Example> {
     let mut distance = log_of(&bench());
     slot_mut(&mut distance, 3)[13] = 2;
     slot_mut(&mut distance, 4)[0] = b'X';
+    let mut itself = log_of(&delivery());
+    slot_mut(&mut itself, 3)[251] = 10;
     vec![
         example("refused-1-half-a-slot", half),
         example("refused-1-too-long", longer),
         example("refused-2-at-0", zero),
         example("refused-2-at-3", distance),
+        example("refused-2-names-itself", itself),
         example("refused-11-decision", log_of(&false_decision())),
+        example("refused-11-delivery", log_of(&false_delivery())),
         example("refused-11-checkpoint", log_of(&false_checkpoint())),
         example("refused-11-cell-left-out", log_of(&cell_left_out())),
         example("refused-13", log_of(&cells(TABLE_CELLS + 6))),
@@ -102,6 +109,44 @@ fn transactions() -> Vec<Request> {
         commit(25, &[read(1, 17, 1)]),
         update(26, &[put(8, 0, 2)]),
     ]
+}
+
+/// Deliveries: too early, after one that aborted, after two orders, after one that nobody made, with a stale read, by a number that is
+/// still open, and in a chain.
+fn deliveries() -> Vec<Request> {
+    vec![
+        update(0, &[put(2, 40, 12)]),
+        update(31, &[put(5, 40, 4)]),
+        update(32, &[put(5, 41, 4)]),
+        update(41, &[put(4, 40, 4)]),
+        commit_after(41, &[], 31, 0),
+        commit(31, &[read(2, 40, 1)]),
+        commit(32, &[]),
+        update(42, &[put(4, 41, 1)]),
+        commit_after(42, &[], 41, 0),
+        update(43, &[put(4, 42, 8)]),
+        commit_after(43, &[read(2, 40, 1)], 31, 32),
+        decision(10, COMMIT),
+        update(44, &[put(4, 43, 1)]),
+        commit_after(44, &[], 77, 0),
+        decision(13, ABORT),
+        update(45, &[put(4, 44, 1)]),
+        commit_after(45, &[read(2, 40, 0)], 31, 0),
+        update(33, &[put(5, 42, 1)]),
+        update(46, &[put(4, 45, 1)]),
+        commit_after(46, &[], 31, 33),
+        update(47, &[put(4, 46, 1)]),
+        commit_after(47, &[], 43, 0),
+        update(48, &[put(4, 47, 1)]),
+        commit_after(48, &[], 32, 47),
+    ]
+}
+
+/// A delivery that came too early, decided to commit.
+fn false_delivery() -> Vec<Request> {
+    let mut requests = deliveries()[..7].to_vec();
+    requests.push(decision(4, COMMIT));
+    requests
 }
 
 /// True checkpoints: of no cell, of some, of a removed one; updates set aside before one.

@@ -2,6 +2,7 @@
 //! after the other, and what must come of each. The format stands at the head of `src/vectors.rs`. `auditing` has
 //! those with openings at a checkpoint and audits.
 
+pub mod after;
 pub mod histories;
 pub mod order;
 pub mod outcomes;
@@ -100,6 +101,7 @@ impl Case {
 pub fn playing() -> Vec<Case> {
     let mut cases = named();
     cases.extend(histories::cases());
+    cases.extend(histories::naming());
     cases
 }
 
@@ -111,6 +113,7 @@ pub fn named() -> Vec<Case> {
     cases.extend(tables::cases());
     cases.extend(order::cases());
     cases.extend(refusals::cases());
+    cases.extend(after::cases());
     cases
 }
 

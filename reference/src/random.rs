@@ -13,9 +13,9 @@ use crate::objects::{Object, Structure};
 use crate::replica::Record;
 use crate::run::Run;
 use crate::sample::{
-    append_before, commit, decision, put, read, remove, rows_of, table_of, update,
+    append_before, commit_after, decision, put, read, remove, rows_of, table_of, update,
 };
-use crate::slot::{writes_in, Read, Write, ABORT, COMMIT, SLOT};
+use crate::slot::{writes_in, Names, Read, Write, ABORT, COMMIT, SLOT};
 use crate::table::Row;
 
 /// Splitmix64.
@@ -105,6 +105,8 @@ pub struct Mix {
     pub false_checkpoints: u64,
     pub disorder: u64,
     pub broken: u64,
+    /// Chance in percent that a commit names numbers.
+    pub names: u64,
 }
 
 impl Mix {
@@ -123,6 +125,7 @@ impl Mix {
             false_checkpoints: 0,
             disorder: 0,
             broken: 0,
+            names: 0,
         }
     }
 
@@ -146,6 +149,11 @@ impl Mix {
             before: true,
             ..self
         }
+    }
+
+    /// With commits that name numbers.
+    pub fn naming(self, names: u64) -> Mix {
+        Mix { names, ..self }
     }
 
     /// Over a directory: up to so many of its objects are in use, with keys near 0 and near the highest.
@@ -182,6 +190,8 @@ pub struct History {
     /// Every append's arguments and answer, in order.
     pub appends: Vec<(Request, Answer<usize>)>,
     open: Vec<u32>,
+    /// The numbers that have a commit record, in the order of these.
+    closed: Vec<u32>,
     /// How many transaction numbers were begun.
     numbers: u32,
     undecided: Vec<u64>,
@@ -205,6 +215,7 @@ impl History {
             run: Run::new(),
             appends: Vec::new(),
             open: Vec::new(),
+            closed: Vec::new(),
             numbers: 0,
             undecided: Vec::new(),
             aside: BTreeMap::new(),
@@ -261,6 +272,7 @@ impl History {
             }
             Request::Commit { number, .. } => {
                 self.open.retain(|open| open != number);
+                self.closed.push(*number);
                 self.undecided.push(at);
                 let cells = self.aside.remove(number).unwrap_or_default();
                 self.give(cells, at);
@@ -351,7 +363,50 @@ impl History {
                 self.number(place)
             }
         };
-        commit(number, &self.reads())
+        let reads = self.reads();
+        let names = match self.mix.names {
+            0 => Names::NONE,
+            chance if self.random.percent(chance) => self.names(number),
+            _ => Names::NONE,
+        };
+        commit_after(number, &reads, names.first, names.second)
+    }
+
+    /// One or two numbers for the commit of a number to name; now and then such that the request is bad.
+    fn names(&mut self, number: u32) -> Names {
+        let one = self.named(number);
+        let other = self.named(number);
+        let (low, high) = (one.min(other), one.max(other));
+        if self.random.percent(self.mix.broken) {
+            return broken_names(&mut self.random, number, low, high);
+        }
+        match self.random.percent(65) || low == high {
+            true => Names::of(one, 0),
+            false => Names::of(low, high),
+        }
+    }
+
+    /// A number that is not this one: mostly one that has committed; or one with a commit record, the one before it, an open one, or
+    /// one that is yet unused.
+    fn named(&mut self, number: u32) -> u32 {
+        let (mut committed, mut others) = (self.closed.clone(), self.open.clone());
+        committed.retain(|closed| self.run.has_committed(*closed));
+        others.retain(|open| *open != number);
+        let named = match self.random.below(14) {
+            0..=9 => self.random.pick(&committed),
+            10 => self.random.pick(&self.closed.clone()),
+            11 => self.closed.last().copied(),
+            12 => self.random.pick(&others),
+            _ => None,
+        };
+        match named.filter(|named| *named != number && *named != 0) {
+            Some(named) => named,
+            None if self.random.percent(20) => u32::MAX - u32::from(number == u32::MAX),
+            None => {
+                let ahead = 2 + self.random.below(3) as u32;
+                self.number(self.numbers + ahead)
+            }
+        }
     }
 
     fn reads(&mut self) -> Vec<Read> {
@@ -555,11 +610,23 @@ pub fn put_in_order(rows: &mut Vec<Row>) {
     rows.dedup_by_key(|row| (row.object, row.key));
 }
 
+/// Numbers that no commit record of a number may name (3.12), from two that it may.
+pub fn broken_names(random: &mut Random, number: u32, low: u32, high: u32) -> Names {
+    match random.below(6) {
+        0 => Names::of(0, low),
+        1 => Names::of(low, low),
+        2 => Names::of(high.max(low.saturating_add(1)), low),
+        3 => Names::of(number, 0),
+        4 => Names::of(low.min(number), low.max(number)),
+        _ => Names::of(number, number.saturating_add(1)),
+    }
+}
+
 /// Breaks one argument of a request.
 pub fn broken(directory: &Directory, random: &mut Random, request: &mut Request, tail: usize) {
     match request {
         Request::Update { items, .. } => break_items(random, items),
-        Request::Commit { number, reads } => match random.below(4) {
+        Request::Commit { number, reads, .. } => match random.below(4) {
             0 => *number = 0,
             1 => reads.extend(read(2, 499, tail as u64 + 1).bytes()),
             _ => break_items(random, reads),

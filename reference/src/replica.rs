@@ -4,10 +4,10 @@ use crate::answer::{
     refuse, refuse_if, Answer, Refusal, BAD_REPLICA, BAD_REQUEST, NO_ROOM, WAITING,
 };
 use crate::directory::Directory;
-use crate::earlier::Earlier;
+use crate::earlier::{Earlier, Transaction};
 use crate::log::{below, pass};
 use crate::slot::{slot_at, Kind, Slot, Write, COMMIT, PUT};
-use crate::table::{capacity, in_order, put_row, row, search, Cell, Index, Named, Row};
+use crate::table::{capacity, in_order, put_row, row, search, Cell, Index, Named, Row, CELL};
 
 /// The part of a replica that is not its table.
 #[derive(Clone, Copy, Debug, PartialEq, Eq)]
@@ -137,8 +137,10 @@ fn play_to(
     let (directory, earlier) = pass(dir, log, tail)?;
     replica_good_at(&directory, record, table, tail)?;
     refuse_if(stop > tail as u64 || stop < record.position, BAD_REQUEST)?;
+    let whole = Whole::needed(&directory, log, &earlier, record, stop as usize);
     let entries = (stop - record.position) as usize;
     let mut player = Player::new(&directory, log, &earlier, record, table, entries);
+    player.whole = whole;
     let mut answer = Ok(());
     while answer.is_ok() && record.position < stop {
         match player.step(record.position as usize) {
@@ -164,6 +166,72 @@ pub enum Step {
     LacksRoom,
 }
 
+/// What a player knows of the log played whole (9.14).
+#[derive(Default)]
+pub struct Whole {
+    /// By offset, as far as it is known: a commit record there commits.
+    committed: Vec<bool>,
+    /// The player's own play is the log played whole, and outcomes are noted as they come.
+    noted: bool,
+}
+
+impl Whole {
+    /// For a play from offset 0 without cells that hosts all objects, of so many entries.
+    pub fn noted(entries: usize) -> Whole {
+        Whole {
+            committed: vec![false; entries],
+            noted: true,
+        }
+    }
+
+    /// What a play to a stop asks for: nothing, unless it decides a commit record that names a number.
+    fn needed(
+        directory: &Directory,
+        log: &[u8],
+        earlier: &Earlier,
+        record: &Record,
+        stop: usize,
+    ) -> Whole {
+        let position = record.position as usize;
+        if record.hosted != directory.everything() {
+            return Whole::default();
+        }
+        match earlier.last_naming(position, stop) {
+            None => Whole::default(),
+            Some(_) if position == 0 && record.count == 0 => Whole::noted(stop),
+            Some(last) => Whole::worked_out(directory, log, earlier, last),
+        }
+    }
+
+    /// By a play of its own up to an offset, with a row for every write.
+    fn worked_out(directory: &Directory, log: &[u8], earlier: &Earlier, to: usize) -> Whole {
+        let writes: usize = (0..to)
+            .map(|at| slot_at(log, at))
+            .filter(|slot| slot.kind() == Some(Kind::Update))
+            .map(Slot::item_count)
+            .sum();
+        let mut table = vec![0; writes * CELL];
+        let fresh = Record {
+            hosted: directory.everything(),
+            position: 0,
+            count: 0,
+        };
+        let mut player = Player::new(directory, log, earlier, &fresh, &mut table, to);
+        player.whole = Whole::noted(to);
+        for at in 0..to {
+            player.step(at);
+        }
+        Whole {
+            committed: player.whole.committed,
+            noted: false,
+        }
+    }
+
+    pub fn commits(&self, at: usize) -> bool {
+        self.committed.get(at) == Some(&true)
+    }
+}
+
 /// Plays the entries of a checked log, one at a time, over a table. Rows that it adds are in order of first writing until `settle`.
 pub struct Player<'a> {
     directory: &'a Directory,
@@ -175,6 +243,7 @@ pub struct Player<'a> {
     index: Index,
     /// Room for the updates of one commit record.
     updates: Vec<usize>,
+    pub whole: Whole,
 }
 
 impl<'a> Player<'a> {
@@ -198,6 +267,7 @@ impl<'a> Player<'a> {
             count,
             index,
             updates: Vec::new(),
+            whole: Whole::default(),
         }
     }
 
@@ -226,6 +296,9 @@ impl<'a> Player<'a> {
                 self.earlier.updates(at, &mut updates);
                 let step = self.apply(&updates, at, Step::Commits);
                 self.updates = updates;
+                if self.whole.noted && step == Step::Commits {
+                    self.whole.committed[at] = true;
+                }
                 step
             }
         }
@@ -233,15 +306,34 @@ impl<'a> Player<'a> {
 
     /// The outcome, or none where it waits (9.7, 9.8).
     fn outcome(&self, commit: Slot, at: usize) -> Option<bool> {
-        let mut current = true;
+        let names = commit.names();
+        if names.any() && self.hosted != self.directory.everything() {
+            return self.decided(at);
+        }
+        let mut commits = names.numbers().all(|named| self.has_committed(named, at));
         for read in commit.reads() {
             let Some(cell) = self.hosted_cell(read.object, read.key) else {
-                return self.earlier.decision(at).map(|outcome| outcome == COMMIT);
+                return self.decided(at);
             };
             // a stale read (9.7)
-            current = current && read.version == self.version(cell);
+            commits = commits && read.version == self.version(cell);
         }
-        Some(current)
+        Some(commits)
+    }
+
+    /// What a decision record says (9.8).
+    fn decided(&self, commit: usize) -> Option<bool> {
+        let outcome = self.earlier.decision(commit)?;
+        Some(outcome == COMMIT)
+    }
+
+    /// Whether a number has committed below an offset (9.14).
+    fn has_committed(&self, number: u32, below: usize) -> bool {
+        let commit = self
+            .earlier
+            .transaction(number)
+            .and_then(Transaction::commit);
+        commit.is_some_and(|at| at < below && self.whole.commits(at))
     }
 
     /// A cell of a checked log, if its object is hosted.

@@ -1,10 +1,10 @@
 //! The one-by-one run (§12). It sees no log.
 
-use std::collections::{BTreeMap, HashMap};
+use std::collections::{BTreeMap, HashMap, HashSet};
 
 use crate::append::Request;
 use crate::directory::Directory;
-use crate::slot::{reads_in, writes_in, Write, PUT};
+use crate::slot::{reads_in, writes_in, Names, Write, PUT};
 use crate::table::Cell;
 
 /// The run's state (12.2).
@@ -14,6 +14,8 @@ pub struct Run {
     /// The written cells, by object and key.
     cells: BTreeMap<(u32, u32), Cell>,
     aside: HashMap<u32, Vec<Write>>,
+    /// The numbers that have committed.
+    won: HashSet<u32>,
     /// For each commit, by its count: it committed.
     outcomes: BTreeMap<u64, bool>,
 }
@@ -37,18 +39,27 @@ impl Run {
                 .entry(*number)
                 .or_default()
                 .extend(writes_in(items)),
-            Request::Commit { number, reads } => self.commit(*number, reads),
+            Request::Commit {
+                number,
+                reads,
+                names,
+            } => self.commit(*number, reads, *names),
             // no cell is changed (12.6)
             Request::Decision { .. } | Request::Checkpoint { .. } => {}
         }
     }
 
     /// A commit (12.5).
-    fn commit(&mut self, number: u32, reads: &[u8]) {
-        let commits =
+    fn commit(&mut self, number: u32, reads: &[u8], names: Names) {
+        let current =
             reads_in(reads).all(|read| self.cell(read.object, read.key).version() == read.version);
+        let met = [names.first, names.second]
+            .iter()
+            .all(|named| *named == 0 || self.has_committed(*named));
+        let commits = current && met;
         self.outcomes.insert(self.count, commits);
         if commits {
+            self.won.insert(number);
             let writes = self.aside.get(&number).cloned().unwrap_or_default();
             self.make(writes.into_iter());
         }
@@ -61,6 +72,11 @@ impl Run {
             let cell = Cell::of(value, self.count);
             self.cells.insert((write.object, write.key), cell);
         }
+    }
+
+    /// Whether a number has committed (12.2).
+    pub fn has_committed(&self, number: u32) -> bool {
+        self.won.contains(&number)
     }
 
     pub fn cell(&self, object: u32, key: u32) -> Cell {

@@ -6,7 +6,7 @@ use crate::directory::{eight, Directory};
 use crate::objects::set_of;
 use crate::replica::{open_fresh, play, Record};
 use crate::run::Run;
-use crate::slot::{Read, Write, ITEM, ITEMS_AT, PUT, REMOVE, SLOT};
+use crate::slot::{slot_at, Kind, Names, Read, Write, ITEM, ITEMS_AT, PUT, REMOVE, SLOT};
 use crate::table::{Cell, Row, CELL};
 
 pub fn put(object: u32, key: u32, value: u32) -> Write {
@@ -51,9 +51,15 @@ pub fn update(number: u32, writes: &[Write]) -> Request {
 }
 
 pub fn commit(number: u32, reads: &[Read]) -> Request {
+    commit_after(number, reads, 0, 0)
+}
+
+/// A commit that names numbers.
+pub fn commit_after(number: u32, reads: &[Read], first: u32, second: u32) -> Request {
     Request::Commit {
         number,
         reads: read_bytes(reads),
+        names: Names { first, second },
     }
 }
 
@@ -106,13 +112,18 @@ pub fn rows_of(directory: &Directory, run: &Run, hosted: u64) -> Vec<Row> {
 /// only the items come from its reads.
 pub fn append_before(writer: &mut Writer, request: &Request) -> Answer<usize> {
     let answer = writer.append(request);
-    let Request::Commit { number, reads } = request else {
+    let Request::Commit {
+        number,
+        reads,
+        names,
+    } = request
+    else {
         return answer;
     };
     if answer.number() != ASTRAY {
         return answer;
     }
-    let answer = writer.append(&commit(*number, &[]));
+    let answer = writer.append(&commit_after(*number, &[], names.first, names.second));
     if let Answer::Done(after) = answer {
         let slot = slot_mut(&mut writer.log, after - 1);
         slot[3] = (reads.len() / ITEM) as u8;
@@ -133,6 +144,34 @@ pub fn grown(slots: usize, requests: &[Request]) -> (Writer, Run) {
     (writer, run)
 }
 
+/// The append that an entry of a checked log is; of a checkpoint, whose arguments no run looks at, an empty one.
+pub fn append_of(log: &[u8], at: usize) -> Request {
+    let slot = slot_at(log, at);
+    let number = slot.number();
+    match slot.kind() {
+        Some(Kind::Update) => Request::Update {
+            number,
+            items: slot.items().to_vec(),
+        },
+        Some(Kind::Commit) => Request::Commit {
+            number,
+            reads: slot.items().to_vec(),
+            names: slot.names(),
+        },
+        Some(Kind::Decision) => decision(slot.verdict().commit, slot.verdict().outcome),
+        _ => checkpoint_of(slot.header(0).object, at, &[]),
+    }
+}
+
+/// The run that is handed the entries of a checked log below an offset as appends (17.23).
+pub fn run_of(log: &[u8], below: usize) -> Run {
+    let mut run = Run::new();
+    for at in 0..below {
+        run.feed(&append_of(log, at), false);
+    }
+    run
+}
+
 /// The bytes of a log of these appends, all slots used.
 pub fn log_of(requests: &[Request]) -> Vec<u8> {
     grown(requests.len(), requests).0.log
@@ -151,6 +190,16 @@ pub fn bench_with(version: u64) -> Vec<Request> {
         update(10, &[put(2, 7, 40)]),
         commit(9, &[read(2, 7, version)]),
         commit(10, &[read(2, 7, 1)]),
+    ]
+}
+
+/// The delivery log (16.7): an order of number 9, and its delivery, number 10, which names it.
+pub fn delivery() -> Vec<Request> {
+    vec![
+        update(9, &[put(5, 1, 6)]),
+        commit(9, &[]),
+        update(10, &[put(4, 2, 1)]),
+        commit_after(10, &[], 9, 0),
     ]
 }
 

@@ -11,9 +11,9 @@
 //! - For each of the eleven lists of sets of `DECLARED`, with its place from 0: `owed PLACE none`, `owed PLACE OFFSET` or `owed PLACE
 //!   refused N at K`.
 //! - For each offset o of 0, 1, .. min(T, 7), then T, then T + 1, without repeats: `entry o KIND NUMBER HEADERS
-//!   ITEMS`, with kind 1 update, 2 commit, 3 decision, 4 checkpoint, and for each header ` OBJECT FORMAT POINTER` on
-//!   the same line (the pointer is the stored 8 bytes as one number); or `entry o refused N at K`. Then `items o` and
-//!   the item list's bytes as 4-byte words; nothing follows where it is empty or refused.
+//!   ITEMS FIRST SECOND`, with kind 1 update, 2 commit, 3 decision, 4 checkpoint, the two numbers of the last eight bytes, and for
+//!   each header ` OBJECT FORMAT POINTER` on the same line (the pointer is the stored 8 bytes as one number); or `entry o refused N
+//!   at K`. Then `items o` and the item list's bytes as 4-byte words; nothing follows where it is empty or refused.
 //! - For each object x of 0, 1, .. 9, and f of 0, T / 2, T, T + 1, without repeats: `next x f OFFSET r`, `next x f end
 //!   r` or `next x f refused N at K r`, with r the reader's next offset afterwards.
 //! - For each object x of 0, 1, .. 9, with a lent list of 5 numbers, then of 40, each filled with 77777: `list x LENGTH
@@ -26,7 +26,7 @@
 //! 4 bytes kind, then its arguments:
 //!
 //! - 1 update: 4 bytes number, 4 bytes length of the items in bytes, the items' bytes.
-//! - 2 commit: the same, with the reads' bytes.
+//! - 2 commit: the same, with the reads' bytes; then 4 bytes first and 4 bytes second number that it names.
 //! - 3 decision: 8 bytes offset, 4 bytes outcome.
 //! - 4 checkpoint: 4 bytes hosted set, 8 bytes position, 8 bytes count, 4 bytes object, 4 bytes length of the table in
 //!   bytes, the table's bytes.
@@ -73,11 +73,11 @@
 //! bytes tail T, 8 bytes hosted set, 4 bytes object x, 4 bytes key. A line for each call:
 //!
 //! - `check done`; `owed 0 none` or `owed 0 OFFSET` with the set 1 declared, `owed 1` likewise with the set 2; `entry KIND NUMBER HEADERS
-//!   ITEMS` of offset 3; `items` of offset 3 as above.
+//!   ITEMS FIRST SECOND` of offset 3; `items` of offset 3 as above.
 //! - `next OFFSET r` or `next end r` of object x from 1, with r as above. `list COUNT` of object x, with a lent list of 3 numbers filled
 //!   with 77777, and then its numbers.
-//! - `update done T`, a plain put of 1 to the cell; `commit done T` of number 9, which reads the cell with version 0; `decision done T`,
-//!   of offset 3 with outcome 1; `checkpoint done T` of object x, from a record of the hosted set, T and count 0 with a table of 96 bytes
+//! - `update done T`, a plain put of 1 to the cell; `commit done T` of number 9, which reads the cell with version 0 and names no
+//!   number; `decision done T`, of offset 3 with outcome 1; `checkpoint done T` of object x, from a record of the hosted set, T and count 0 with a table of 96 bytes
 //!   of zero. Each is made on a copy of the log, and its line goes on with the last 256 bytes of that log afterwards, or all where
 //!   they are fewer, as 4-byte words.
 //! - `open done H P C` of the hosted set; `restore done H P C` of offset 0 into a table of 96 bytes of zero; `play done H P C` on the same
@@ -278,8 +278,13 @@ fn print_entry(text: &mut String, log: &[u8], tail: usize, offset: u64) {
     let answer = entry(eight(), log, tail, offset);
     line(text, &format!("entry {offset}"), answer, |entry| {
         let mut shown = format!(
-            "{} {} {} {}",
-            entry.kind as u32, entry.number, entry.headers, entry.items
+            "{} {} {} {} {} {}",
+            entry.kind as u32,
+            entry.number,
+            entry.headers,
+            entry.items,
+            entry.names.first,
+            entry.names.second
         );
         for place in 0..entry.headers as u32 {
             if let Answer::Done(header) = header(eight(), log, tail, offset, place) {

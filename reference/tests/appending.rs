@@ -12,7 +12,7 @@ use reference::log::{check, entry, header, items};
 use reference::random::{broken, directory, History, Mix, Random};
 use reference::replica::Record;
 use reference::sample::*;
-use reference::slot::{Kind, SLOT};
+use reference::slot::{Kind, Names, SLOT};
 use reference::table::Row;
 use reference::Answer::{self, Done, Refused};
 
@@ -123,18 +123,24 @@ fn only_the_slot_at_the_tail_is_written() {
                     (Kind::Checkpoint, saved_items(&cells))
                 }
             };
-            assert_eq!(
-                entry(eight(), &log, after, tail as u64)
-                    .done()
-                    .unwrap()
-                    .kind,
-                kind
-            );
+            let named = match request {
+                Request::Commit { names, .. } => *names,
+                _ => Names::NONE,
+            };
+            let told = entry(eight(), &log, after, tail as u64).done().unwrap();
+            assert_eq!((told.kind, told.names), (kind, named));
             assert_eq!(items(eight(), &log, after, tail as u64), stored);
             tail = after;
         }
         assert_eq!(case.outcome().log, log);
     }
+}
+
+/// A lone second number, two that do not ascend, or the commit's own.
+fn bad_names(number: u32, names: Names) -> bool {
+    let Names { first, second } = names;
+    let own = first == number || second == number;
+    number != 0 && own || second != 0 && (first == 0 || first >= second)
 }
 
 /// What the entries of a log mean to later appends, kept in plain sets.
@@ -239,7 +245,11 @@ impl Judge {
     fn ask(&mut self, request: &Request) -> u32 {
         let number = match request {
             Request::Update { number, items } => self.update(*number, items),
-            Request::Commit { number, reads } => self.commit(*number, reads),
+            Request::Commit {
+                number,
+                reads,
+                names,
+            } => self.commit(*number, reads, *names),
             Request::Decision { offset, outcome } => self.decision(*offset, *outcome),
             Request::Checkpoint {
                 record,
@@ -295,7 +305,7 @@ impl Judge {
         }
     }
 
-    fn commit(&self, number: u32, reads: &[u8]) -> u32 {
+    fn commit(&self, number: u32, reads: &[u8], names: Names) -> u32 {
         if number == 0 || reads.len() > 192 || !reads.len().is_multiple_of(16) {
             return 3;
         }
@@ -308,7 +318,7 @@ impl Judge {
             .iter()
             .all(|(object, key)| self.is_cell(*object, *key));
         let old = reads.chunks(16).all(|item| get(item, 8, 8) <= self.tail);
-        if !sorted || !known || !old {
+        if !sorted || !known || !old || bad_names(number, names) {
             3
         } else if self.closed.contains(&number) {
             4
@@ -428,7 +438,7 @@ fn a_plain_judge_says_the_same_over_any_directory() {
         let mut random = Random::new(seed ^ 0xD3);
         let directory = directory(&mut random);
         let dir = directory.bytes();
-        let mix = Mix::rough().over(&directory, &mut random, 8);
+        let mix = Mix::rough().over(&directory, &mut random, 8).naming(30);
         let mut judge = Judge::of(&dir, &vec![0; 40 * SLOT], 0);
         let mut history = History::over(directory, seed, 40, mix);
         let mut log = vec![0x5A; 40 * SLOT];
@@ -493,7 +503,7 @@ fn the_histories_are_as_wide_as_meant() {
 fn the_vectors_stay_within_their_bounds() {
     let cases = appending();
     let (stdin, stdout) = (input(&cases), output(&cases));
-    assert!(stdin.len() < 262_144, "{}", stdin.len());
+    assert!(stdin.len() < 327_680, "{}", stdin.len());
     assert!(stdout.len() < 1_500_000, "{}", stdout.len());
     assert!(cases.iter().all(|case| case.log.len() <= 4_096));
     let requests: usize = cases.iter().map(|case| case.requests.len()).sum();
@@ -554,6 +564,7 @@ fn read_back(rest: &mut &[u8], case: &Case) {
                 2 => Request::Commit {
                     number: transaction,
                     reads: items,
+                    names: Names::of(number(rest, 4) as u32, number(rest, 4) as u32),
                 },
                 _ => panic!("kind {kind}"),
             }
@@ -569,7 +580,11 @@ fn requests_as_stored() {
     assert_eq!(request_bytes(&update(9, &[put(2, 7, 42)])), expected);
     let mut expected = vec![0, 0, 0, 2, 0, 0, 1, 0, 0, 0, 0, 16];
     expected.extend([0, 0, 0, 2, 0, 0, 0, 7, 0, 0, 0, 0, 0, 0, 0, 3]);
+    expected.extend([0; 8]);
     assert_eq!(request_bytes(&commit(256, &[read(2, 7, 3)])), expected);
+    let mut expected = vec![0, 0, 0, 2, 0, 0, 0, 9, 0, 0, 0, 0];
+    expected.extend([0, 0, 0, 4, 0, 0, 1, 5]);
+    assert_eq!(request_bytes(&commit_after(9, &[], 4, 261)), expected);
     let expected = [0, 0, 0, 3, 0, 0, 0, 1, 0, 0, 0, 4, 0, 0, 0, 2];
     assert_eq!(request_bytes(&decision(1 << 32 | 4, 2)), expected);
     let mut expected = vec![0, 0, 0, 4, 0, 0, 0, 0x80, 0, 0, 0, 0, 0, 0, 0, 5];

@@ -10,6 +10,7 @@ use reference::log::check;
 use reference::playing::{input, output, record, Case, Request, Said};
 use reference::random::{damage, directory, History, Mix, Random};
 use reference::replica::{open_fresh, play};
+use reference::sample::run_of;
 use reference::slot::{slot_at, Kind, COMMIT};
 use reference::table::{row, CELL};
 use reference::Answer::{self, Done, Refused};
@@ -96,7 +97,7 @@ impl<'a> Taker<'a> {
 fn stdin_reads_back_within_its_bounds() {
     let cases = auditing();
     let (bytes, text) = (input(&cases), output(&cases));
-    assert!(bytes.len() < 224_000 && text.len() < 1_000_000);
+    assert!(bytes.len() < 250_000 && text.len() < 1_000_000);
     let mut taker = Taker(&bytes);
     for case in &cases {
         assert_eq!(taker.counted(), case.log);
@@ -141,8 +142,14 @@ fn plainly(dir: &[u8], log: &[u8], tail: usize, table: &[u8]) -> (u32, Option<u6
                 };
                 let commit = slot_at(log, verdict.commit as usize);
                 let mut reads = commit.reads();
-                let commits = reads.all(|read| version(read.object, read.key) == read.version);
-                (verdict.outcome == COMMIT) == commits
+                let current = reads.all(|read| version(read.object, read.key) == read.version);
+                // And each number that it names has committed below it.
+                let run = run_of(log, verdict.commit as usize);
+                let met = commit
+                    .names()
+                    .numbers()
+                    .all(|named| run.has_committed(named));
+                (verdict.outcome == COMMIT) == (current && met)
             }
             Some(Kind::Checkpoint) => {
                 let object = slot.header(0).object;
@@ -203,6 +210,7 @@ fn audits_over_any_directory_find_what_a_plain_auditor_finds() {
             1 => mix.before(),
             _ => mix,
         };
+        let mix = mix.naming([0, 50][seed as usize % 2]);
         let dir = directory.bytes();
         let mut history = History::over(directory, seed, 30, mix);
         for _ in 0..30 {

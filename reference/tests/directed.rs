@@ -17,7 +17,7 @@ use reference::report::playlog;
 use reference::sample::{
     bench, commit, decision, log_of, put, read, remove, table_of, update, write_bytes,
 };
-use reference::slot::{slot_at, SLOT};
+use reference::slot::{slot_at, Names, SLOT};
 use reference::table::{row, rows, Cell, Row, CELL};
 
 fn refused<T>(number: u32) -> Answer<T> {
@@ -604,7 +604,10 @@ fn sparse_ids() {
         .map(|header| header.object)
         .collect();
     assert_eq!(headers, [1000, 5000, 6000, HIGHEST_ID]);
-    assert_eq!(append::commit(&dir, &mut log, 2, 8, &[]), Done(3));
+    assert_eq!(
+        append::commit(&dir, &mut log, 2, 8, &[], Names::NONE),
+        Done(3)
+    );
     // hosted by place, not by id
     for (place, rows) in [(0, 0), (1, 1), (2, 1), (3, 1), (4, 1)] {
         let mut table = vec![0; 4 * CELL];

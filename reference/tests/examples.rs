@@ -38,7 +38,8 @@ fn first_lines_are_those_of_the_names() {
         let due = match example.name {
             "refused-1-half-a-slot" | "refused-1-too-long" => "refused 1 at -",
             "refused-2-at-0" => "refused 2 at 0",
-            "refused-2-at-3" => "refused 2 at 3",
+            "refused-2-at-3" | "refused-2-names-itself" => "refused 2 at 3",
+            "refused-11-delivery" => "refused 11 at 7",
             "refused-11-decision" => "refused 11 at 6",
             "refused-11-checkpoint" => "refused 11 at 5",
             "refused-11-cell-left-out" => "refused 11 at 1",
@@ -66,6 +67,19 @@ fn bench_is_printed_as_document_01_has_it() {
         said("bench-stale-read"),
         "offset number outcome\n3 9 abort\n4 10 commit\nobject key value version\n2 7 40 5\n"
     );
+    assert_eq!(
+        said("delivery"),
+        "offset number outcome\n1 9 commit\n3 10 commit\nobject key value version\n4 2 1 4\n5 1 6 2\n"
+    );
+    let outcomes = |text: &str| {
+        let lines = text
+            .lines()
+            .skip(1)
+            .take_while(|line| !line.starts_with('o'));
+        let words = lines.map(|line| line.rsplit_once(' ').map_or("", |(_, outcome)| outcome));
+        words.map(|outcome| &outcome[..1]).collect::<String>()
+    };
+    assert_eq!(outcomes(&said("deliveries")), "accacaaacc");
     assert_eq!(said("table-full").lines().count(), 2 + 2_730);
     assert_eq!(
         said("empty"),

@@ -10,7 +10,7 @@ use reference::random::{directory, edge, faulty_directory, flip, junk, History, 
 use reference::replica::{open_at, open_fresh, play, read_cell, Record};
 use reference::run::Run;
 use reference::sample::{put, read};
-use reference::slot::{slot_at, Kind, SLOT};
+use reference::slot::{slot_at, Kind, Names, SLOT};
 use reference::table::CELL;
 use reference::Answer;
 
@@ -42,8 +42,8 @@ fn shows(directory: &Directory, record: &Record, table: &[u8], states: &[Run], k
     }
 }
 
-/// A replica waits exactly at a commit record of its objects whose reads it does not all host and whose decision is
-/// not below the tail.
+/// A replica waits exactly at a commit record of its objects whose reads it does not all host, or that names a number while it
+/// does not host everything, and whose decision is not below the tail.
 fn must_wait(directory: &Directory, log: &[u8], tail: usize, hosted: u64, at: usize) -> bool {
     let slot = slot_at(log, at);
     let decided = (0..tail).any(|later| {
@@ -54,7 +54,8 @@ fn must_wait(directory: &Directory, log: &[u8], tail: usize, hosted: u64, at: us
         && slot
             .headers()
             .any(|header| directory.has(hosted, header.object))
-        && slot.reads().any(|read| !directory.has(hosted, read.object))
+        && (slot.reads().any(|read| !directory.has(hosted, read.object))
+            || slot.names() != Names::NONE && hosted != directory.everything())
         && !decided
 }
 
@@ -133,6 +134,7 @@ fn replicas_of_audited_logs_show_the_run() {
             0 => Mix::true_records().before(),
             _ => Mix::true_records(),
         };
+        let mix = mix.naming([0, 40][seed as usize % 2]);
         let history = History::made(seed, 40, 50, Mix { broken: 10, ..mix });
         let (log, tail) = (&history.writer.log, history.writer.tail);
         let (answer, record) = audit(eight(), log, tail, &mut vec![0; 100 * CELL]);
@@ -168,6 +170,7 @@ fn replicas_over_any_directory_show_the_run() {
             _ => Mix::true_records(),
         };
         let mix = mix.over(&directory, &mut random, 8);
+        let mix = mix.naming([0, 40][seed as usize % 2]);
         let mut history = History::over(directory, seed, 40, mix);
         for _ in 0..50 {
             history.step();
@@ -292,7 +295,8 @@ fn shown_versions_are_never_astray() {
                 let answer = append::update(eight(), &mut after, tail, number, &items);
                 assert_eq!(answer, Answer::Done(tail + 1));
                 let reads = read(object, 0, cell.version()).bytes();
-                let answer = append::commit(eight(), &mut after, tail + 1, number, &reads);
+                let answer =
+                    append::commit(eight(), &mut after, tail + 1, number, &reads, Names::NONE);
                 assert_eq!(answer, Answer::Done(tail + 2));
                 asked += u32::from(cell.version() > 0);
             }
@@ -354,6 +358,7 @@ fn call_everything(dir: &[u8], log: &[u8], random: &mut Random) {
         Request::Commit {
             number: small,
             reads: junk(random, 40),
+            names: Names::of(edge(random) as u32, edge(random) as u32),
         },
         Request::Decision {
             offset,
@@ -390,7 +395,8 @@ fn any_bytes_and_numbers_end_in_an_answer() {
             0 => junk(&mut random, 1000),
             _ => {
                 let slots = random.below(9) as usize;
-                History::made(seed, slots, 12, Mix::rough()).writer.log
+                let mix = Mix::rough().naming(30);
+                History::made(seed, slots, 12, mix).writer.log
             }
         };
         if random.percent(20) {
@@ -421,7 +427,7 @@ fn any_directory_ends_in_an_answer() {
         let own = directory(&mut random);
         let mut dir = own.bytes();
         let slots = random.below(9) as usize;
-        let mix = Mix::rough().over(&own, &mut random, 5);
+        let mix = Mix::rough().over(&own, &mut random, 5).naming(30);
         let mut history = History::over(own, seed, slots, mix);
         for _ in 0..12 {
             history.step();

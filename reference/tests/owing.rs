@@ -191,7 +191,9 @@ fn owes(directory: &Directory, log: &[u8], tail: usize, sets: &[u64], at: usize)
         let held = slot
             .headers()
             .filter(|header| directory.has(set, header.object));
-        held.count() > 0 && !slot.reads().all(|read| directory.has(set, read.object))
+        let reads_outside = !slot.reads().all(|read| directory.has(set, read.object));
+        let names_outside = slot.names().any() && set != directory.everything();
+        held.count() > 0 && (reads_outside || names_outside)
     };
     slot.kind() == Some(Kind::Commit) && sets.iter().any(|set| lacks(*set)) && !(0..tail).any(names)
 }
@@ -219,6 +221,7 @@ fn history(seed: u64, random: &mut Random) -> History {
         broken: 0,
         ..Mix::rough().over(&directory, random, 6)
     };
+    let mix = mix.naming([0, 30][seed as usize / 2 % 2]);
     let mut history = History::over(directory, seed, 60, mix);
     for _ in 0..40 {
         let request = history.request();

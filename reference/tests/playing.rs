@@ -8,6 +8,8 @@ use reference::log::check;
 use reference::playing::{histories, input, named, output, playing, record, Case, Request, Said};
 use reference::random::{directory, History, Mix, Random};
 use reference::replica::{play, Record};
+use reference::run::Run;
+use reference::sample::run_of;
 use reference::slot::{slot_at, Kind, Write, COMMIT, PUT};
 use reference::table::{capacity, row, Row, CELL};
 use reference::Answer::{Done, Refused};
@@ -111,8 +113,8 @@ impl<'a> Taker<'a> {
 fn stdin_reads_back_within_its_bounds() {
     let cases = playing();
     let (bytes, text) = (input(&cases), output(&cases));
-    // With those of auditing in one file, below 480,000.
-    assert!(bytes.len() < 256_000 && text.len() < 1_000_000);
+    // With those of auditing in one file, below 524,288.
+    assert!(bytes.len() < 288_000 && text.len() < 1_000_000);
     let mut taker = Taker(&bytes);
     for case in &cases {
         assert_eq!(taker.counted(), case.log);
@@ -212,11 +214,23 @@ fn due(
     {
         return Some(Vec::new());
     }
-    let commits = if slot.reads().all(|read| directory.has(hosted, read.object)) {
-        slot.reads().all(|read| {
+    let names: Vec<u32> = slot.names().numbers().collect();
+    let everything = directory
+        .objects()
+        .iter()
+        .all(|object| directory.has(hosted, object.id));
+    let alone = slot.reads().all(|read| directory.has(hosted, read.object))
+        && (names.is_empty() || everything);
+    let commits = if alone {
+        let run = match names.is_empty() {
+            true => Run::new(),
+            false => run_of(log, at),
+        };
+        let current = slot.reads().all(|read| {
             let version = place(rows, read.object, read.key).map_or(0, |at| rows[at].version);
             version == read.version
-        })
+        });
+        current && names.iter().all(|named| run.has_committed(*named))
     } else {
         let decided = (0..tail)
             .map(|at| slot_at(log, at))
@@ -279,6 +293,7 @@ fn plays_over_any_directory_are_as_a_plain_player_says() {
         let mut random = Random::new(seed ^ 0xD2);
         let directory = directory(&mut random);
         let mix = Mix::rough().over(&directory, &mut random, 6);
+        let mix = mix.naming([0, 20, 60][seed as usize % 3]);
         let dir = directory.bytes();
         let mut history = History::over(directory.clone(), seed, 40, mix);
         for _ in 0..45 {

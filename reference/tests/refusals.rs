@@ -7,7 +7,7 @@ use reference::directory::eight;
 use reference::log::{check, entry, header, items, list, next, owed, stretch};
 use reference::replica::{open_at, open_fresh, play, read_cell, Record};
 use reference::sample::*;
-use reference::slot::{ABORT, COMMIT, SLOT};
+use reference::slot::{Names, ABORT, COMMIT, SLOT};
 use reference::table::{Cell, Row, CELL};
 use reference::Answer::{self, Done};
 
@@ -185,7 +185,12 @@ fn commit_fields() {
     with(&[read(3, 0, 0), read(2, 1, 0)], refused(3));
     with(&[read(2, 9, 0), read(3, 1, 0)], Done(2));
     let reads = read(2, 0, 0).bytes()[..15].to_vec();
-    appends(&log, 1, &Request::Commit { number: 8, reads }, refused(3));
+    let cut = Request::Commit {
+        number: 8,
+        reads,
+        names: Names::NONE,
+    };
+    appends(&log, 1, &cut, refused(3));
 }
 
 #[test]
@@ -519,7 +524,10 @@ fn the_most_slots() {
         append::update(eight(), &mut empty, 0, 0, &put(2, 1, 1).bytes()),
         refused(9)
     );
-    assert_eq!(append::commit(eight(), &mut empty, 0, 1, &[]), refused(6));
+    assert_eq!(
+        append::commit(eight(), &mut empty, 0, 1, &[], Names::NONE),
+        refused(6)
+    );
     assert_eq!(append::decision(eight(), &mut empty, 0, 0, 1), refused(3));
     assert_eq!(
         append::checkpoint(eight(), &mut empty, 0, &record(1, 0, 0), &[], 1),

@@ -45,7 +45,14 @@ fn appended_again(log: &[u8], tail: usize) -> [u32; 2] {
         let entry = slot_at(log, at);
         let mut again = log.to_vec();
         again[at * SLOT..].fill(0x33);
-        match append::commit(eight(), &mut again, at, entry.number(), entry.items()) {
+        match append::commit(
+            eight(),
+            &mut again,
+            at,
+            entry.number(),
+            entry.items(),
+            entry.names(),
+        ) {
             Answer::Done(after) => {
                 assert_eq!(again[..after * SLOT], log[..after * SLOT]);
                 counts[0] += 1;
@@ -118,7 +125,7 @@ fn an_entry_is_judged_with_those_below_it_alone() {
 fn the_vectors_stay_within_their_bounds() {
     let cases = reading();
     let total: usize = cases.iter().map(|case| 8 + case.log.len()).sum();
-    assert!(total < 240_000, "{total}");
+    assert!(total < 262_144, "{total}");
     assert!(cases.iter().all(|case| case.log.len() <= 8_448));
     assert!(frames().len() + good().len() + broken().len() > 100);
 }

@@ -8,7 +8,7 @@ use reference::log::{check, entry, header, items, list, next, owed, scan, Reader
 use reference::replica::{open_at, open_fresh, play, play_in_place, read_cell, Record};
 use reference::report::playlog;
 use reference::sample::*;
-use reference::slot::{slot_at, Kind, Read, ABORT, COMMIT, SLOT};
+use reference::slot::{slot_at, Kind, Names, Read, ABORT, COMMIT, SLOT};
 use reference::table::{row, Cell, Row, CELL};
 use reference::Answer::{self, Done};
 
@@ -125,7 +125,14 @@ fn commits(base: &[Request], free: usize, number: u32, reads: &[Read]) -> (u32, 
     let tail = base.len();
     log.resize(log.len() + free * SLOT, 0x77);
     let before = log.clone();
-    match append::commit(eight(), &mut log, tail, number, &read_bytes(reads)) {
+    match append::commit(
+        eight(),
+        &mut log,
+        tail,
+        number,
+        &read_bytes(reads),
+        Names::NONE,
+    ) {
         Done(after) => {
             assert_eq!(after, tail + 1);
             assert_eq!(items(eight(), &log, after, tail as u64), read_bytes(reads));
@@ -377,12 +384,19 @@ fn twelve_and_thirteen_reads() {
     let reads: Vec<_> = (0..13).map(|key| read(2, key, 0)).collect();
     let before = log.clone();
     assert_eq!(
-        append::commit(eight(), &mut log, 1, 3, &read_bytes(&reads)),
+        append::commit(eight(), &mut log, 1, 3, &read_bytes(&reads), Names::NONE),
         refused(3)
     );
     assert_eq!(log, before);
     assert_eq!(
-        append::commit(eight(), &mut log, 1, 3, &read_bytes(&reads[..12])),
+        append::commit(
+            eight(),
+            &mut log,
+            1,
+            3,
+            &read_bytes(&reads[..12]),
+            Names::NONE
+        ),
         Done(2)
     );
     assert_eq!(check(eight(), &log, 2), Done(()));
@@ -393,9 +407,12 @@ fn read_version_equal_to_the_tail() {
     let mut log = log_of(&[update(3, &[put(5, 1, 1)]), update(0, &[put(2, 7, 1)])]);
     log.resize(3 * SLOT, 0);
     let above = read(2, 7, 3).bytes();
-    assert_eq!(append::commit(eight(), &mut log, 2, 3, &above), refused(3));
     assert_eq!(
-        append::commit(eight(), &mut log, 2, 3, &read(2, 7, 2).bytes()),
+        append::commit(eight(), &mut log, 2, 3, &above, Names::NONE),
+        refused(3)
+    );
+    assert_eq!(
+        append::commit(eight(), &mut log, 2, 3, &read(2, 7, 2).bytes(), Names::NONE),
         Done(3)
     );
     assert!(playlog(&log).contains("2 3 commit"));

@@ -2,7 +2,7 @@
 
 use crate::append::Request;
 use crate::sample::*;
-use crate::slot::{Read, Write, ABORT, COMMIT, SLOT};
+use crate::slot::{Names, Read, Write, ABORT, COMMIT, SLOT};
 
 use super::{astray, junk, with_junk, Asking, Case};
 
@@ -236,6 +236,7 @@ fn commit_lengths() -> Case {
     let of = |number: u32, length: usize| Request::Commit {
         number,
         reads: many[..length].to_vec(),
+        names: Names::NONE,
     };
     for length in [1, 15, 17, 31, 191, 193, 208, 4096] {
         asking.refused(3, of(8, length));

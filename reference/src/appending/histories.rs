@@ -7,13 +7,19 @@ use crate::slot::SLOT;
 use super::{junk, Case};
 
 pub fn cases() -> Vec<Case> {
-    (0..18).map(history).collect()
+    (0..18).map(|seed| history(seed, 0)).collect()
 }
 
-fn history(seed: u64) -> Case {
+/// Those in which most commits name numbers.
+pub fn naming() -> Vec<Case> {
+    (18..26).map(|seed| history(seed, 75)).collect()
+}
+
+fn history(seed: u64, names: u64) -> Case {
     let mix = Mix {
         open: 2,
         astray: 100,
+        names,
         ..Mix::rough()
     };
     let mut history = History::new(82_283 + seed, 0, mix);

@@ -17,7 +17,73 @@ pub fn cases() -> Vec<Case> {
         other_objects(),
     ];
     cases.extend(false_checkpoints());
+    cases.extend([unmet_names(), met_names()]);
     cases
+}
+
+/// Number 8 aborts for its read, and so does 9, which names it, at 5. Number 10 at 8 names 7, which has committed, and 11, which commits
+/// too late, at 10.
+fn naming() -> Vec<crate::append::Request> {
+    vec![
+        update(0, &[put(3, 1, 1)]),
+        update(8, &[put(2, 1, 2)]),
+        update(9, &[put(2, 2, 3)]),
+        commit(8, &[read(3, 1, 0)]),
+        update(7, &[put(4, 1, 5)]),
+        commit_after(9, &[read(3, 1, 1)], 8, 0),
+        commit(7, &[]),
+        update(10, &[put(4, 2, 6)]),
+        commit_after(10, &[read(3, 1, 1)], 7, 11),
+        update(11, &[put(4, 3, 6)]),
+        commit_after(11, &[], 7, 0),
+    ]
+}
+
+/// An unmet name makes a decision to commit false; it is judged at the commit record, so a later commit of the named number is too
+/// late.
+fn unmet_names() -> Case {
+    let mut requests = naming();
+    requests.extend([
+        decision(5, ABORT),
+        decision(10, COMMIT),
+        decision(8, COMMIT),
+        decision(3, COMMIT),
+    ]);
+    let mut asking = Asking::on("a false commit, unmet names", log_of(&requests), junk(80));
+    asking.audits(13, 3);
+    asking.finds(14, 13, 3);
+    asking.finds(15, 13, 3);
+    asking.never(2, 2);
+    asking.never(4, 2);
+    asking.holds(4, 3, 6, 11);
+    asking.row(0, 3, 1, Some(1), 1);
+    asking.row(1, 4, 1, Some(5), 7);
+    asking.row(2, 4, 3, Some(6), 11);
+    asking.case()
+}
+
+/// Met names make a decision to abort false.
+fn met_names() -> Case {
+    let mut requests = naming();
+    requests.extend([
+        decision(8, ABORT),
+        decision(10, ABORT),
+        checkpoint_of(
+            4,
+            13,
+            &[Row::of(4, 1, Some(5), 7), Row::of(4, 3, Some(6), 11)],
+        ),
+        checkpoint_of(2, 14, &[]),
+    ]);
+    let mut asking = Asking::on("a false abort, met names", log_of(&requests), junk(75));
+    asking.audits(12, 3);
+    for tail in [13, 14, 15] {
+        asking.finds(tail, 12, 3);
+    }
+    asking.row(0, 3, 1, Some(1), 1);
+    asking.row(1, 4, 1, Some(5), 7);
+    asking.row(2, 4, 3, Some(6), 11);
+    asking.case()
 }
 
 /// The commit record at 2 commits, the one at 4 aborts.

@@ -10,12 +10,17 @@ use crate::replica::{open_at, play};
 use crate::slot::{slot_at, Kind};
 
 pub fn cases() -> Vec<Case> {
-    (0..32).map(history).collect()
+    (0..32).map(|seed| history(seed, 0)).collect()
+}
+
+/// Those in which most commit records name numbers.
+pub fn naming() -> Vec<Case> {
+    (32..34).map(|seed| history(seed, 75)).collect()
 }
 
 /// The history's log has 10 to 16 entries; of every four, one has no false records.
-fn history(seed: u64) -> Case {
-    let grown = grown(seed);
+fn history(seed: u64, names: u64) -> Case {
+    let grown = grown(seed, names);
     let mut random = grown.random.clone();
     let (tail, log) = (grown.writer.tail, grown.writer.used().to_vec());
     let table = junk(table_length(&mut random));
@@ -30,7 +35,7 @@ fn history(seed: u64) -> Case {
     }
 }
 
-fn grown(seed: u64) -> History {
+fn grown(seed: u64, names: u64) -> History {
     let chance = if seed.is_multiple_of(4) { 0 } else { 30 };
     let mix = Mix {
         objects: [0b1_1110, 0b0001_0010, 0b0110_0110][seed as usize % 3],
@@ -39,6 +44,7 @@ fn grown(seed: u64) -> History {
         false_decisions: chance,
         false_checkpoints: chance,
         stale: 20,
+        names,
         ..Mix::true_records().before()
     };
     let mut history = History::new(77_000 + seed, 16, mix);

@@ -12,12 +12,17 @@ use crate::slot::SLOT;
 use super::{record, Case, Request};
 
 pub fn cases() -> Vec<Case> {
-    (0..40).map(history).collect()
+    (0..40).map(|seed| history(seed, 0)).collect()
+}
+
+/// Those in which most commit records name numbers.
+pub fn naming() -> Vec<Case> {
+    (40..42).map(|seed| history(seed, 75)).collect()
 }
 
 /// The history's log has 8 to 16 entries and now and then a slot of junk above them.
-fn history(seed: u64) -> Case {
-    let grown = grown(seed);
+fn history(seed: u64, names: u64) -> Case {
+    let grown = grown(seed, names);
     let mut random = grown.random.clone();
     let tail = grown.writer.tail;
     let mut log = grown.writer.used().to_vec();
@@ -38,7 +43,7 @@ fn history(seed: u64) -> Case {
 }
 
 /// A log grown by random appends until it has its entries.
-fn grown(seed: u64) -> History {
+fn grown(seed: u64, names: u64) -> History {
     let mix = Mix {
         objects: [0xFF, 0b1_1110, 0b0001_0010, 0b0110_0110][seed as usize % 4],
         keys: 3,
@@ -46,6 +51,7 @@ fn grown(seed: u64) -> History {
         false_decisions: 15,
         false_checkpoints: 20,
         stale: 20,
+        names,
         ..Mix::true_records().before()
     };
     let mut history = History::new(55_000 + seed, 16, mix);
