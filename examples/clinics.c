@@ -92,7 +92,7 @@ static void commit(struct clinic *c, uint32_t transaction, uint32_t object, uint
     size_t at = number(item, 0, object, 4);
     at = number(item, at, key, 4);
     at = number(item, at, version, 8);
-    if (stocklog_append_commit(c->dir, c->dir_len, c->log, sizeof c->log, c->tail, transaction, item, at, out) ==
+    if (stocklog_append_commit(c->dir, c->dir_len, c->log, sizeof c->log, c->tail, transaction, item, at, 0, 0, out) ==
         STOCKLOG_DONE) {
         printf("%s: transaction %lu commits: offset %llu\n", c->name, (unsigned long)transaction,
                (unsigned long long)c->tail);

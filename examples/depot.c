@@ -76,7 +76,7 @@ static void commit(const char *what, uint32_t transaction, const struct items *r
 {
     uint64_t out[4];
     uint32_t result = stocklog_append_commit(DEPOTS, log_bytes, sizeof log_bytes, tail, transaction,
-                                             reads->bytes, reads->len, out);
+                                             reads->bytes, reads->len, 0, 0, out);
     appended(what, result, out);
 }
 

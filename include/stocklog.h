@@ -66,6 +66,16 @@
  * It is what stocklog_read_cell answers, and what a read has. An offset sent in its place is one too low: STOCKLOG_ASTRAY is for that,
  * though offset 0, and one that is a version of the cell by chance, pass.
  *
+ * A COMMIT RECORD MAY NAME one or two other transaction numbers, after which alone its transaction may commit: a delivery after its
+ * order. It then aborts where a read is stale, or where a named number has not committed below it: where no commit record of that number
+ * is at a lower offset, or that one aborts, by its reads or by what it names itself. A number that nobody uses, that is still open or
+ * that commits later may be named; the transaction aborts. Of the two numbers 0 stands for none, one that is named alone is the first, two
+ * ascend strictly, and neither is the commit's own. They stand in bytes 248-251 and 252-255 of the slot, which are zero in all other
+ * entries.
+ * Only a replica that hosts every object of the directory decides such a record by itself. What has committed it works out from the log,
+ * from offset 0 on, whatever its own position and cells are and whatever decision records say. Any other replica of an object that the
+ * transaction writes takes the outcome from the decision record, or waits for one, also where it hosts all objects read.
+ *
  * A REPLICA is a record of three numbers, which the caller keeps and hands over: the hosted set (64 bits: bit k for the object at
  * place k of the directory), the position, and the count of cells; and a lent table of 24-byte rows, one cell each: object 4, key 4,
  * value 4 (0 if removed), present 4 (1 or 0), version 8. Its capacity is table_len / 24. A hosted set has at least one bit, and none
@@ -119,7 +129,8 @@ enum {
     STOCKLOG_BAD_REPLICA = 10,  /* hosted set 0 or with a bit past the directory's last record, count over the table's capacity,
                                    counted rows that do not ascend strictly by object, then key, or position over the tail */
     STOCKLOG_FALSE_RECORD = 11, /* audit: a decision or checkpoint is not as played; out[3]: the lowest such offset */
-    STOCKLOG_WAITING = 12,      /* play: a commit record whose reads are not all hosted, with no decision record yet */
+    STOCKLOG_WAITING = 12,      /* play: a commit record whose reads are not all hosted, or that names a number while not all
+                                   objects are, with no decision record yet */
     STOCKLOG_NO_ROOM = 13,      /* more new cells than the table has room for, more offsets than the list, or more than
                                    12 cells for a checkpoint; from the audit, out[3]: the entry's offset */
     STOCKLOG_BEHIND = 14,       /* a checkpoint from a replica that is not at the tail */
@@ -189,9 +200,10 @@ uint32_t stocklog_check(
 /*
  * The lowest commit record that owes a decision record to one of the declared sets. Declared are up to 16 sets, as hosted sets are: bit
  * k for the object at place k of the directory. They say what replicas host that shall not be left waiting. A commit record owes where
- * some declared set has an object of its headers (those that its transaction's updates write) but not all objects that it reads, and no
- * decision record below the tail names it; whether a decision is true does not matter here. With no set declared nothing is owed, and
- * to a set of all objects nothing is. A set may be declared twice, and their order does not matter.
+ * some declared set has an object of its headers (those that its transaction's updates write) but not all objects that it reads, or,
+ * where it names a number, not all objects of the directory; and no decision record below the tail names it. Whether a decision is true
+ * does not matter here. With no set declared nothing is owed, and to a set of all objects nothing is. A set may be declared twice, and
+ * their order does not matter.
  * Where nothing is owed, no stocklog_play on this log with this tail answers 12 to a record that hosts one of the sets. To pay, append
  * a decision record for the offset told, and ask again: a decision makes no new debt.
  * Done: out[0] is 1 and out[1] its offset; or out[0] and out[1] are 0 where none owes. Refusals: 15, 1, 2, 3 (over 16 sets, a set that is
@@ -204,7 +216,8 @@ uint32_t stocklog_owed(
 /*
  * The entry at an offset. Note the eight places of out.
  * Done: out[0] its kind (STOCKLOG_UPDATE ..), out[1] its transaction number (0 is none), out[2] how many headers, out[4] how many
- * items. Refused: out[3] as everywhere, the others 0. Refusals: 15, 1, 2, 3 (offset not below the tail).
+ * items, out[5] and out[6] the numbers that it names (0 for none, and for all but a commit record). Refused: out[3] as everywhere, the
+ * others 0. Refusals: 15, 1, 2, 3 (offset not below the tail).
  */
 uint32_t stocklog_entry(
     const uint8_t *dir, size_t dir_len, const uint8_t *log, size_t log_len, uint64_t tail, uint64_t offset,
@@ -260,15 +273,16 @@ uint32_t stocklog_append_update(
     const uint8_t *items, size_t items_len, uint64_t out[4]);
 
 /*
- * A commit record with 0 to 12 reads: the transaction commits where every read's version is the cell's version there.
+ * A commit record with 0 to 12 reads, and one or two other numbers that it names, or none: first and second, 0 for none. The transaction
+ * commits where every read's version is the cell's version there and every named number has committed below.
  * Refusals: 15, 1, 2, 3 (number 0; reads_len not 16 times 0 to 12; a read's object or key; a version above the tail; reads not
- * strictly ascending), 4, 6, 16 (a read's version is no version that the cell had or, had a commit record committed, would have
+ * strictly ascending; a second number without a first, or not above it; the commit's own number), 4, 6, 16 (a read's version is no version that the cell had or, had a commit record committed, would have
  * had; out[3] its place from 0), 9. A stale version is not refused: it makes the transaction abort. What a replica of a log that
  * the audit passes shows is never refused with 16. Logs that have such reads already stay good.
  */
 uint32_t stocklog_append_commit(
     const uint8_t *dir, size_t dir_len, uint8_t *log, size_t log_len, uint64_t tail, uint32_t number,
-    const uint8_t *reads, size_t reads_len, uint64_t out[4]);
+    const uint8_t *reads, size_t reads_len, uint32_t first, uint32_t second, uint64_t out[4]);
 
 /*
  * A decision record: the outcome (STOCKLOG_COMMITTED or STOCKLOG_ABORTED) of the commit record at an offset. Whether it is true is
