@@ -5,10 +5,12 @@ use reference::directory::{the_eight, Directory};
 use reference::log::MOST_SETS;
 use reference::price::list_of;
 use reference::prices;
-use reference::random::{self, edge, faulty_directory, flip, junk, put_in_order, Random};
+use reference::random::{
+    self, broken_names, edge, faulty_directory, flip, junk, put_in_order, Random,
+};
 use reference::replica::Record;
-use reference::sample::{commit, put, read, remove, table_of, update};
-use reference::slot::{Read, Write};
+use reference::sample::{put, read, read_bytes, remove, table_of, update};
+use reference::slot::{Names, Read, Write};
 use reference::table::{capacity, rows, Row, CELL};
 
 use crate::calls::Call;
@@ -295,6 +297,20 @@ fn number(random: &mut Random, tail: u64) -> u32 {
     }
 }
 
+/// Numbers that the commit of a number names: mostly none, else good ones and bad ones.
+pub fn names(random: &mut Random, number: u32, tail: u64) -> Names {
+    let one = self::number(random, tail);
+    let other = self::number(random, tail);
+    let (low, high) = (one.min(other), one.max(other));
+    match random.below(10) {
+        0..=4 => Names::NONE,
+        5 => Names::of(one, 0),
+        6..=7 => Names::of(low, high),
+        8 => broken_names(random, number, low, high),
+        _ => Names::of(edge(random) as u32, edge(random) as u32),
+    }
+}
+
 /// An append whose arguments may be anything.
 pub fn append(random: &mut Random, seen: Seen, kind: u64) -> Request {
     match kind {
@@ -307,13 +323,17 @@ pub fn append(random: &mut Random, seen: Seen, kind: u64) -> Request {
             let writes: Vec<Write> = (0..count).map(|_| write(random, seen)).collect();
             update(number(random, seen.tail), &writes)
         }
-        1 if random.percent(10) => Request::Commit {
-            number: number(random, seen.tail),
-            reads: junk(random, 250),
-        },
         1 => {
-            let reads = reads(random, seen);
-            commit(number(random, seen.tail), &reads)
+            let reads = match random.percent(10) {
+                true => junk(random, 250),
+                false => read_bytes(&reads(random, seen)),
+            };
+            let number = number(random, seen.tail);
+            Request::Commit {
+                number,
+                reads,
+                names: names(random, number, seen.tail),
+            }
         }
         2 => Request::Decision {
             offset: offset(random, seen.tail),

@@ -133,9 +133,16 @@ impl Call {
             Call::Append(Request::Update { number, items }) => {
                 format!("number {number}, items {}", hex(items))
             }
-            Call::Append(Request::Commit { number, reads }) => {
-                format!("number {number}, reads {}", hex(reads))
-            }
+            Call::Append(Request::Commit {
+                number,
+                reads,
+                names,
+            }) => format!(
+                "number {number}, named {} and {}, reads {}",
+                names.first,
+                names.second,
+                hex(reads)
+            ),
             Call::Append(Request::Decision { offset, outcome }) => {
                 format!("offset {offset}, outcome {outcome}")
             }
@@ -343,8 +350,18 @@ fn made(
             Call::Append(Request::Update { number, .. }) => stocklog_append_update(
                 dir, dir_len, log, log_len, tail, *number, bytes, bytes_len, out,
             ),
-            Call::Append(Request::Commit { number, .. }) => stocklog_append_commit(
-                dir, dir_len, log, log_len, tail, *number, bytes, bytes_len, out,
+            Call::Append(Request::Commit { number, names, .. }) => stocklog_append_commit(
+                dir,
+                dir_len,
+                log,
+                log_len,
+                tail,
+                *number,
+                bytes,
+                bytes_len,
+                names.first,
+                names.second,
+                out,
             ),
             Call::Append(Request::Decision { offset, outcome }) => {
                 stocklog_append_decision(dir, dir_len, log, log_len, tail, *offset, *outcome, out)

@@ -2,7 +2,7 @@
 
 use std::collections::BTreeMap;
 
-use reference::append::Request;
+use reference::append::{self, Request};
 use reference::boundary::Said;
 use reference::directory::Directory;
 use reference::header::{BackPointer, Header, FARTHEST};
@@ -10,15 +10,16 @@ use reference::log::{owed, MOST_SETS};
 use reference::objects::Structure;
 use reference::price::price;
 use reference::replica::{pointed_at, Record};
-use reference::rules::objects_written;
-use reference::slot::{reads_in, slot_at, writes_in, Kind, Read, MOST_HEADERS, SLOT};
+use reference::rules::{names_good, objects_written};
+use reference::sample::run_of;
+use reference::slot::{reads_in, slot_at, writes_in, Kind, Names, Read, MOST_HEADERS, SLOT};
 use reference::table::{capacity, in_order, rows};
 use reference::Answer;
 
 use crate::calls::{Call, NAMES};
 
 /// Cases that must be met beside the numbers.
-pub const CASES: [&str; 45] = [
+pub const CASES: [&str; 64] = [
     "owed: an offset",
     "owed: none",
     "entry: update",
@@ -64,7 +65,30 @@ pub const CASES: [&str; 45] = [
     "price: 3 for a register",
     "price: 3 for the list alone",
     "price: 10 for the order of the rows",
+    "append_commit: 0 with one number named",
+    "append_commit: 0 with two numbers named",
+    "append_commit: 3 for a lone second number alone",
+    "append_commit: 3 for equal numbers alone",
+    "append_commit: 3 for descending numbers alone",
+    "append_commit: 3 for its own number alone",
+    "entry: commit that names numbers",
+    "check: 2 at the numbers that a commit record names",
+    "check: 2 at the last bytes of another entry",
+    "owed: an offset for a named number alone",
+    "play: 12 at a named number alone",
+    "play: on to a named number that has committed",
+    "play: on to one that aborted",
+    "play: on to one that commits later",
+    "play: on to one that is open",
+    "play: on to one that nobody uses",
+    "play: on to one that aborted and names numbers too",
+    "play: past a named number by its decision record",
+    "audit: 11 at a decision about a named number",
 ];
+
+/// Where the cases of named numbers begin, and how long a log is looked at for them.
+const NAMING: usize = 45;
+const LOOKED_AT: u64 = 60;
 
 /// Cases of directories that must be met, beside 15 in every call.
 pub const DIRECTED_CASES: [&str; 10] = [
@@ -98,15 +122,17 @@ impl Cover {
         let number = (said.number as usize).min(20);
         self.numbers[call.place()][number] += 1;
         let of_commit = match call {
-            Call::Append(Request::Commit { number, reads }) => {
+            Call::Append(Request::Commit { number, reads, .. }) => {
                 commit_cases(log, tail, (*number, reads), said)
             }
             _ => Vec::new(),
         };
+        let of_names = named_cases(dir, log, tail, call, said);
         let directed = directed_case(dir, call, said).map(|place| DIRECTED_CASES[place]);
         let of_call = case_of(dir, log, call, said);
         let of_sets = case_of_sets(dir, log, tail, call, said).or_else(|| priced(dir, call, said));
         let cases = of_call.into_iter().chain(of_commit).chain(of_sets);
+        let cases = cases.chain(of_names);
         for case in cases.chain(directed) {
             *self.cases.entry(case).or_default() += 1;
         }
@@ -240,6 +266,146 @@ fn commit_cases(
     [Some(CASES[place]), past_first, full]
         .into_iter()
         .flatten()
+        .collect()
+}
+
+/// What a call met of the numbers that commit records name. Play is looked at where the log is short.
+fn named_cases(dir: &[u8], log: &[u8], tail: u64, call: &Call, said: &Said) -> Vec<&'static str> {
+    let Ok(directory) = Directory::of(dir) else {
+        return Vec::new();
+    };
+    let out = said.out;
+    let met = match (call, said.number) {
+        (Call::Append(request @ Request::Commit { .. }), 0 | 3) => {
+            let names = names_of(request);
+            match said.number {
+                0 => names.any().then(|| names.numbers().count() - 1),
+                _ => names_alone(dir, log, tail, request),
+            }
+        }
+        (Call::Entry { .. }, 0) => (out[5] != 0).then_some(6),
+        (Call::Check, 2) => last_bytes(log, out[3] as usize),
+        (Call::Owed { sets }, 0) if out[0] == 1 => {
+            let lacks = |set: &u64| *set != directory.everything();
+            (reads_within(&directory, log, out[1] as usize, sets) && sets.iter().any(lacks))
+                .then_some(9)
+        }
+        (Call::Play { record, .. }, 12) => {
+            reads_within(&directory, log, out[1] as usize, &[record.hosted]).then_some(10)
+        }
+        (Call::Play { record, .. }, 0 | 13) if tail <= LOOKED_AT => {
+            let entries = record.position as usize..out[1] as usize;
+            let everything = record.hosted == directory.everything();
+            return entries
+                .filter(|at| passed_naming(&directory, log, *at, record.hosted))
+                .flat_map(|at| match everything {
+                    true => numbers_met(log, at, tail as usize),
+                    false => vec![NAMING + 17],
+                })
+                .map(|place| CASES[place])
+                .collect();
+        }
+        (Call::Audit { .. }, 11) => {
+            let slot = slot_at(log, out[3] as usize);
+            let about = slot.kind() == Some(Kind::Decision)
+                && slot_at(log, slot.verdict().commit as usize).names().any();
+            about.then_some(18)
+        }
+        _ => None,
+    };
+    met.map(|place| CASES[NAMING + place]).into_iter().collect()
+}
+
+fn names_of(request: &Request) -> Names {
+    match request {
+        Request::Commit { names, .. } => *names,
+        _ => Names::NONE,
+    }
+}
+
+/// The commit is 3 for what it names and for nothing else: which fault.
+fn names_alone(dir: &[u8], log: &[u8], tail: u64, request: &Request) -> Option<usize> {
+    let Request::Commit {
+        number,
+        reads,
+        names,
+    } = request
+    else {
+        return None;
+    };
+    let unnamed = Request::Commit {
+        number: *number,
+        reads: reads.clone(),
+        names: Names::NONE,
+    };
+    let mut copy = log.to_vec();
+    if append::request(dir, &mut copy, tail as usize, &unnamed).number() == 3 {
+        return None;
+    }
+    Some(match (names.first, names.second) {
+        (0, second) if second != *number => 2,
+        (first, second) if first == second && first != *number => 3,
+        (first, second) if second != 0 && first > second && second != *number => 4,
+        _ => 5,
+    })
+}
+
+/// A bad entry that would be good with zeros at its end: which kind.
+fn last_bytes(log: &[u8], at: usize) -> Option<usize> {
+    let slot = slot_at(log, at);
+    match slot.kind() {
+        Some(Kind::Commit) if !names_good(slot.number(), slot.names()) => Some(7),
+        Some(Kind::Commit) | None => None,
+        Some(_) => slot.names().any().then_some(8),
+    }
+}
+
+/// The commit record names a number, and each of these sets with an object of its headers has all that it reads.
+fn reads_within(directory: &Directory, log: &[u8], at: usize, sets: &[u64]) -> bool {
+    let slot = slot_at(log, at);
+    let met = |set: &&u64| {
+        slot.headers()
+            .any(|header| directory.has(**set, header.object))
+    };
+    slot.names().any()
+        && sets
+            .iter()
+            .filter(met)
+            .all(|set| slot.reads().all(|read| directory.has(*set, read.object)))
+}
+
+/// A commit record of a hosted object that names a number.
+fn passed_naming(directory: &Directory, log: &[u8], at: usize, hosted: u64) -> bool {
+    let slot = slot_at(log, at);
+    slot.kind() == Some(Kind::Commit)
+        && slot.names().any()
+        && slot
+            .headers()
+            .any(|header| directory.has(hosted, header.object))
+}
+
+/// What became of each number that the commit record at an offset names, as places among the cases.
+fn numbers_met(log: &[u8], at: usize, tail: usize) -> Vec<usize> {
+    let below = run_of(log, at);
+    let commit_of = |number: u32| {
+        (0..tail).find(|&other| {
+            let slot = slot_at(log, other);
+            slot.kind() == Some(Kind::Commit) && slot.number() == number
+        })
+    };
+    let used = |number: u32| (0..tail).any(|other| slot_at(log, other).number() == number);
+    let place = |number: u32| match commit_of(number) {
+        _ if below.has_committed(number) => 11,
+        Some(commit) if commit < at && slot_at(log, commit).names().any() => 16,
+        Some(commit) if commit < at => 12,
+        Some(_) => 13,
+        None if used(number) => 14,
+        None => 15,
+    };
+    let names = slot_at(log, at).names();
+    names
+        .numbers()
+        .map(|number| NAMING + place(number))
         .collect()
 }
 

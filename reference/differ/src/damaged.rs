@@ -8,7 +8,8 @@ use reference::log::pass;
 use reference::random::{damage, edge, junk, History, Random};
 use reference::sample::{put, read, remove};
 use reference::slot::{
-    slot_at, write_slot, Kind, Saved, Verdict, HEADER, HEADERS_AT, ITEM, ITEMS_AT, SLOT,
+    slot_at, write_slot, Kind, Names, Saved, Verdict, HEADER, HEADERS_AT, ITEM, ITEMS_AT, REST_AT,
+    SLOT,
 };
 
 use crate::arguments::{self, Seen};
@@ -76,8 +77,9 @@ fn grown<'a>(random: &mut Random, directory: &'a Directory, seed: u64) -> (Vec<u
 /// One change of the log, or none, where the arguments alone are junk.
 fn change(random: &mut Random, log: &mut Vec<u8>, seen: &mut Seen) {
     let tail = seen.tail as usize;
-    match random.below(22) {
+    match random.below(24) {
         0..=4 if tail > 0 => damage(random, log, tail),
+        22..=23 if tail > 0 => wrong_names(random, log, tail),
         5 if tail > 1 => swap(random, log, tail),
         6 if tail > 1 => copy(random, log, tail),
         7..=9 if tail > 0 => wrong_pointer(random, seen.directory, log, tail),
@@ -174,6 +176,39 @@ fn wrong_field(random: &mut Random, log: &mut [u8], tail: usize) {
     }
 }
 
+/// The last eight bytes: of a commit record mostly, and now and then of any entry.
+fn wrong_names(random: &mut Random, log: &mut [u8], tail: usize) {
+    let slots = log.len() / SLOT;
+    let commits: Vec<usize> = (0..tail.min(slots))
+        .filter(|&at| slot_at(log, at).kind() == Some(Kind::Commit))
+        .collect();
+    let at = match random.pick(&commits) {
+        Some(at) if random.percent(75) => at,
+        _ => random.below(tail as u64) as usize,
+    };
+    let slot = slot(log, at);
+    if slot.len() < SLOT {
+        return;
+    }
+    let (number, tail) = (get32(slot, 4), tail as u64);
+    match random.below(4) {
+        0 => {
+            let at = REST_AT + random.below(8) as usize;
+            slot[at] = slot[at].wrapping_add(1 + random.below(255) as u8);
+        }
+        1 => {
+            let (first, second) = (get32(slot, REST_AT), get32(slot, REST_AT + 4));
+            put32(slot, REST_AT, second);
+            put32(slot, REST_AT + 4, first);
+        }
+        _ => {
+            let names = arguments::names(random, number, tail);
+            put32(slot, REST_AT, names.first);
+            put32(slot, REST_AT + 4, names.second);
+        }
+    }
+}
+
 /// A slot with the right pointers and whatever else, at the tail or in place of an entry.
 fn forge(random: &mut Random, log: &mut [u8], seen: &mut Seen) {
     let slots = log.len() / SLOT;
@@ -196,7 +231,11 @@ fn forge(random: &mut Random, log: &mut [u8], seen: &mut Seen) {
             Header::made(object, at, earlier.nearest(place))
         })
         .collect();
-    write_slot(slot(log, at), kind, number, &headers, &items);
+    let names = match (kind, random.percent(3)) {
+        (Kind::Commit, _) | (_, true) => arguments::names(random, number, seen.tail),
+        _ => Names::NONE,
+    };
+    write_slot(slot(log, at), kind, number, &headers, &items, names);
     seen.tail = seen.tail.max(at as u64 + 1);
 }
 

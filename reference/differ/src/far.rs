@@ -9,7 +9,7 @@ use reference::price::list_of;
 use reference::prices;
 use reference::random::{put_in_order, History, Mix, Random};
 use reference::replica::{version_at, Record};
-use reference::sample::{commit, put, read, table_of, update};
+use reference::sample::{commit, commit_after, put, read, table_of, update};
 use reference::slot::{slot_at, Kind, Read, MOST_SLOTS, SLOT};
 use reference::table::{put_row, row, rows, Row, CELL};
 
@@ -45,6 +45,7 @@ pub fn far(pair: &mut Pair, seed: u64) -> Result<(), Difference> {
 fn grown(random: &mut Random, seed: u64) -> (Vec<u8>, u64) {
     let mix = Mix {
         broken: 0,
+        names: 40 * (seed % 2),
         ..Mix::true_records()
     };
     let slots = 65_560 + random.below(40) as usize;
@@ -371,7 +372,8 @@ fn read_and_save(
 /// be, of which 40,000 are written in one play.
 pub fn directed(pair: &mut Pair, seed: u64) -> Result<(), Difference> {
     far_id(pair, seed)?;
-    many_keys(pair, seed)
+    many_keys(pair, seed)?;
+    many_named(pair, seed)
 }
 
 fn directory_of(highest_keys: [(u32, u32); 2]) -> Directory {
@@ -452,6 +454,60 @@ fn many_keys(pair: &mut Pair, seed: u64) -> Result<(), Difference> {
     for object in [3, 9] {
         read_and_save(pair, &mut log, tail, record, table.clone(), object)?;
     }
+    Ok(())
+}
+
+/// Named numbers whose outcomes hang on 40,000 cells: transactions that read some of them, each with one after it that names it. Replicas
+/// of everything that have none of these cells play them from any of the last entries on.
+fn many_named(pair: &mut Pair, seed: u64) -> Result<(), Difference> {
+    pair.begin("many named", seed);
+    let mut random = Random::new(seed ^ 0x5EED_0008);
+    let directory = directory_of([(3, 5), (9, HIGHEST_KEY)]);
+    pair.dir = directory.bytes();
+    let mut writer = Writer::over(directory, 4_080);
+    let mut cells = Vec::new();
+    while writer.tail < 4_000 {
+        let keys: Vec<u32> = (0..11).map(|_| random.number() as u32 % u32::MAX).collect();
+        let writes = keys.iter().map(|key| put(9, *key, 1)).collect::<Vec<_>>();
+        cells.extend(keys.iter().map(|key| (*key, version_at(writer.tail))));
+        writer.append(&update(0, &writes));
+    }
+    for number in 1..=20 {
+        let late = cells.len() / 2 * usize::from(random.percent(70));
+        let (key, version) = random.pick(&cells[late..]).unwrap_or((0, 0));
+        let version = if random.percent(30) { 0 } else { version };
+        let (order, delivery) = (2 * number, 2 * number + 1);
+        let second = if number > 1 { delivery - 2 } else { 0 };
+        let names = match random.below(3) {
+            0 if second != 0 => (second, order),
+            _ => (order, 0),
+        };
+        for request in [
+            update(order, &[put(3, number % 6, order)]),
+            commit(order, &[read(9, key, version)]),
+            update(delivery, &[put(9, number, delivery)]),
+            commit_after(delivery, &[], names.0, names.1),
+        ] {
+            writer.append(&request);
+        }
+    }
+    let tail = writer.tail as u64;
+    let mut log = writer.log;
+    for position in [4_000, 4_001 + random.below(40), tail - 3, tail - 1] {
+        let record = Record {
+            hosted: 3,
+            position,
+            count: 0,
+        };
+        let mut call = Call::Play {
+            record,
+            table: vec![0xAA; 40 * CELL],
+            stop: tail,
+        };
+        pair.call(&mut log, tail, &mut call)?;
+    }
+    let scratch = vec![0xD5; 44_100 * CELL];
+    pair.call(&mut log, tail, &mut Call::Audit { scratch })?;
     Ok(())
 }
 

@@ -119,6 +119,7 @@ pub fn mix(random: &mut Random, directory: &Directory) -> Mix {
     }
     Mix {
         stride: random.pick(&STRIDES).unwrap_or(1),
+        names: random.pick(&[0, 0, 20, 50, 80]).unwrap_or(0),
         ..mix
     }
 }

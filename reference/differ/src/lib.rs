@@ -12,6 +12,7 @@ pub mod headers;
 pub mod histories;
 pub mod library;
 pub mod measure;
+pub mod naming;
 pub mod orders;
 pub mod page;
 pub mod pair;

@@ -1,8 +1,8 @@
 //! The library under test: its seventeen functions, as `stocklog.h` has them.
 //!
 //! With the feature `before` they are those of an archive from before directories, which know the eight alone: the directory is not
-//! handed on. With `unpriced` it is one from before prices, which has no such function. The benchmark measures such archives beside the
-//! present one, on logs of the eight.
+//! handed on. With `unpriced` it is one from before prices, which has no such function; with `unnamed` one from before commits named
+//! numbers, to which none are handed on. The benchmark measures such archives beside the present one, on logs of the eight.
 
 /// A hosted set, as the library takes one.
 #[cfg(not(feature = "before"))]
@@ -50,7 +50,6 @@ calls! {
     stocklog_stream_next(log: *const u8, log_len: usize, tail: u64, object: u32, from: u64);
     stocklog_stream_list(log: *const u8, log_len: usize, tail: u64, object: u32, list: *mut u32, list_len: usize);
     stocklog_append_update(log: *mut u8, log_len: usize, tail: u64, number: u32, items: *const u8, items_len: usize);
-    stocklog_append_commit(log: *mut u8, log_len: usize, tail: u64, number: u32, reads: *const u8, reads_len: usize);
     stocklog_append_decision(log: *mut u8, log_len: usize, tail: u64, offset: u64, outcome: u32);
     stocklog_append_checkpoint(log: *mut u8, log_len: usize, tail: u64, hosted: crate::library::Hosted, position: u64, count: u64,
         table: *const u8, table_len: usize, object: u32);
@@ -60,6 +59,87 @@ calls! {
         table: *mut u8, table_len: usize, stop: u64);
     stocklog_read_cell(hosted: crate::library::Hosted, position: u64, count: u64, table: *const u8, table_len: usize, object: u32, key: u32);
     stocklog_audit(log: *const u8, log_len: usize, tail: u64, scratch: *mut u8, scratch_len: usize);
+}
+
+#[cfg(not(feature = "unnamed"))]
+extern "C" {
+    pub fn stocklog_append_commit(
+        dir: *const u8,
+        dir_len: usize,
+        log: *mut u8,
+        log_len: usize,
+        tail: u64,
+        number: u32,
+        reads: *const u8,
+        reads_len: usize,
+        first: u32,
+        second: u32,
+        out: *mut u64,
+    ) -> u32;
+}
+
+#[cfg(feature = "unnamed")]
+pub use unnamed::stocklog_append_commit;
+
+#[cfg(feature = "unnamed")]
+mod unnamed {
+    #[cfg(not(feature = "before"))]
+    mod interface {
+        extern "C" {
+            pub fn stocklog_append_commit(
+                dir: *const u8,
+                dir_len: usize,
+                log: *mut u8,
+                log_len: usize,
+                tail: u64,
+                number: u32,
+                reads: *const u8,
+                reads_len: usize,
+                out: *mut u64,
+            ) -> u32;
+        }
+    }
+
+    #[cfg(feature = "before")]
+    mod interface {
+        extern "C" {
+            pub fn stocklog_append_commit(
+                log: *mut u8,
+                log_len: usize,
+                tail: u64,
+                number: u32,
+                reads: *const u8,
+                reads_len: usize,
+                out: *mut u64,
+            ) -> u32;
+        }
+    }
+
+    /// # Safety
+    /// As the `stocklog.h` of that archive says.
+    #[allow(clippy::too_many_arguments, unused_variables)]
+    pub unsafe fn stocklog_append_commit(
+        dir: *const u8,
+        dir_len: usize,
+        log: *mut u8,
+        log_len: usize,
+        tail: u64,
+        number: u32,
+        reads: *const u8,
+        reads_len: usize,
+        _: u32,
+        _: u32,
+        out: *mut u64,
+    ) -> u32 {
+        #[cfg(not(feature = "before"))]
+        return interface::stocklog_append_commit(
+            dir, dir_len, log, log_len, tail, number, reads, reads_len, out,
+        );
+        #[cfg(feature = "before")]
+        return interface::stocklog_append_commit(
+            log, log_len, tail, number, reads, reads_len, out,
+        );
+    }
 }
 
 #[cfg(not(feature = "unpriced"))]

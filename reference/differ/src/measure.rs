@@ -6,7 +6,7 @@ use reference::directory::{eight, Directory};
 use reference::log::MOST_SETS;
 use reference::replica::{play, Record};
 use reference::sample::{read, read_bytes};
-use reference::slot::{Read, MOST_ITEMS, SLOT};
+use reference::slot::{Names, Read, MOST_ITEMS, SLOT};
 use reference::table::{rows, CELL};
 
 use crate::library::{
@@ -178,6 +178,30 @@ pub fn takes_directory() -> bool {
     number == 0 && out == [1, 0, 0, 0]
 }
 
+/// Whether the library's append of a commit takes the numbers that it names. One that does not takes the first of them for the address
+/// of `out`, which ends the process: ask in one of its own.
+pub fn takes_names() -> bool {
+    let mut out = [0; 4];
+    let (dir, mut log) = (eight(), [0; SLOT]);
+    // The pointers are to memory of the length beside them, if the library takes them as such.
+    let number = unsafe {
+        stocklog_append_commit(
+            dir.as_ptr(),
+            dir.len(),
+            log.as_mut_ptr(),
+            SLOT,
+            0,
+            1,
+            log.as_ptr(),
+            0,
+            0,
+            9,
+            out.as_mut_ptr(),
+        )
+    };
+    number == 3 && out == [0; 4]
+}
+
 /// Whether the library has a call as it is now. Before sets were declared, what is owed took none: the place of the sets was that of
 /// `out`, so that they have room for it here; it is then done, and now it is 3.
 pub fn has(call: &str) -> bool {
@@ -228,6 +252,7 @@ fn by_reference(call: &str, lent: &mut Lent) -> Said {
             let request = Request::Commit {
                 number: lent.number,
                 reads: lent.reads.clone(),
+                names: Names::NONE,
             };
             boundary::append(&lent.dir, &mut lent.log, tail - 1, &request)
         }
@@ -284,6 +309,8 @@ fn by_library(call: &str, lent: &mut Lent) -> Said {
                     lent.number,
                     reads,
                     reads_len,
+                    0,
+                    0,
                     to,
                 )
             }

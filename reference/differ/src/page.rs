@@ -89,6 +89,20 @@ of the small objects, and checkpoints of them in turn, each of all its cells.\n"
     text
 }
 
+/// The tables of plays on logs whose commits name numbers, each with its name.
+pub fn naming(tables: &[(&str, String)]) -> String {
+    let mut text = "\
+Plays of everything on logs as above, of which every third commit record names one or two numbers that have committed. A play from\n\
+offset 0 knows which numbers have committed. One that goes on from a later entry first plays the log whole, up to the last commit record\n\
+that names a number, to find out; it is measured beside the play from offset 0 of the same log, and should take at most 2.2 times as\n\
+long.\n"
+        .to_string();
+    for (name, table) in tables {
+        text += &format!("\n{name}:\n\n{table}");
+    }
+    text
+}
+
 /// The lines of the plot, which leaves some calls, the landing before and other directories out.
 pub fn lines(rows: &[Row], columns: &[Column]) -> Vec<Line> {
     let mut lines = Vec::new();

@@ -11,9 +11,10 @@ use reference::random::Random;
 use reference::replica::Record;
 use reference::run::Run;
 use reference::sample::{
-    append_before, commit, decision, put, read, remove, rows_of, table_of, update, write_bytes,
+    append_before, commit_after, decision, put, read, remove, rows_of, table_of, update,
+    write_bytes,
 };
-use reference::slot::{Read, Write, ABORT, COMMIT, SLOT};
+use reference::slot::{Names, Read, Write, ABORT, COMMIT, SLOT};
 
 /// What is in use of an object of the directory.
 #[derive(Clone, Copy, Debug)]
@@ -105,7 +106,14 @@ pub struct Depots {
     open: VecDeque<Open>,
     pub last_number: u32,
     owed: VecDeque<u64>,
+    /// Chance in percent that a commit record names numbers.
+    names: u64,
+    /// Some numbers that have committed, the last ones.
+    committed: VecDeque<u32>,
 }
+
+/// How many of them are kept.
+const KEPT: usize = 16;
 
 /// A log of so many slots, written before: its stale reads are half a version, which mostly is astray. Transaction numbers are the
 /// multiples of the stride; the append has one that is new.
@@ -116,6 +124,15 @@ pub fn workload(slots: usize, seed: u64, stride: u32) -> Made {
     depots.stride = stride;
     depots.fill();
     Made::of_eight(depots.writer.log, depots.last_number + stride)
+}
+
+/// The same, with that chance in percent that a commit record names numbers.
+pub fn naming(slots: usize, names: u64) -> Made {
+    let saved = SAVED.to_vec();
+    let mut depots = Depots::over(the_eight().clone(), slots, OF_EIGHT.to_vec(), saved);
+    depots.names = names;
+    depots.fill();
+    Made::of_eight(depots.writer.log, depots.last_number + 1)
 }
 
 impl Depots {
@@ -131,6 +148,8 @@ impl Depots {
             open: VecDeque::new(),
             last_number: 0,
             owed: VecDeque::new(),
+            names: 0,
+            committed: VecDeque::new(),
         }
     }
 
@@ -138,6 +157,14 @@ impl Depots {
         let answer = append_before(&mut self.writer, request);
         assert!(answer.is_done(), "{request:?} is refused: {answer:?}");
         self.run.feed(request, false);
+        if let Request::Commit { number, .. } = request {
+            if self.run.has_committed(*number) {
+                self.committed.push_back(*number);
+            }
+            if self.committed.len() > KEPT {
+                self.committed.pop_front();
+            }
+        }
     }
 
     /// Goes on until no slot is free.
@@ -236,7 +263,23 @@ impl Depots {
         if reads.iter().any(|read| directory.is_marked(read.object)) {
             self.owed.push_back(self.writer.tail as u64);
         }
-        commit(number, &reads)
+        let names = self.names();
+        commit_after(number, &reads, names.first, names.second)
+    }
+
+    /// None, or one or two of the last numbers that have committed; now and then one that has not.
+    fn names(&mut self) -> Names {
+        if self.names == 0 || !self.random.percent(self.names) {
+            return Names::NONE;
+        }
+        let committed: Vec<u32> = self.committed.iter().copied().collect();
+        let mut named = || self.random.pick(&committed).unwrap_or(u32::MAX);
+        let (one, other) = (named(), named());
+        match one == other || self.random.percent(50) {
+            true if self.random.percent(2) => Names::of(u32::MAX, 0),
+            true => Names::of(one, 0),
+            false => Names::of(one.min(other), one.max(other)),
+        }
     }
 
     fn reads(&mut self) -> Vec<Read> {

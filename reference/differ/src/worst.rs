@@ -9,6 +9,7 @@ use reference::sample::{commit, put, read, read_bytes, table_of, update};
 use reference::slot::{Read, Write, MOST_ITEMS};
 use reference::table::Row;
 
+use crate::naming::{FROM_0, LATER};
 use crate::sparse::SPARSE;
 use crate::workload::Made;
 
@@ -129,7 +130,8 @@ pub const COMMITS: [Log; 3] = [
 
 /// The log of a name.
 pub fn log(name: &str, size: usize) -> Option<Made> {
-    let mut all = LOGS.iter().chain(&COMMITS).chain(&SPARSE);
+    let naming = [&FROM_0].into_iter().chain(&LATER);
+    let mut all = LOGS.iter().chain(&COMMITS).chain(&SPARSE).chain(naming);
     let found = all.find(|log| log.name == name)?;
     Some((found.maker)(size))
 }

@@ -4,6 +4,7 @@
 use reference::append::Request;
 use reference::boundary::{self, Said};
 use reference::replica::Record;
+use reference::slot::Names;
 use std::slice;
 
 /// A lent slice; an empty one may have any pointer.
@@ -77,9 +78,13 @@ calls! {
     stocklog_append_update(log: *mut u8, log_len: usize, tail: u64, number: u32, items: *const u8, items_len: usize) out 4 =>
         boundary::append(dir, lent_mut(log, log_len), tail as usize,
             &Request::Update { number, items: lent(items, items_len).to_vec() });
-    stocklog_append_commit(log: *mut u8, log_len: usize, tail: u64, number: u32, reads: *const u8, reads_len: usize) out 4 =>
-        boundary::append(dir, lent_mut(log, log_len), tail as usize,
-            &Request::Commit { number, reads: lent(reads, reads_len).to_vec() });
+    stocklog_append_commit(log: *mut u8, log_len: usize, tail: u64, number: u32, reads: *const u8, reads_len: usize,
+            first_named: u32, second_named: u32) out 4 =>
+        boundary::append(dir, lent_mut(log, log_len), tail as usize, &Request::Commit {
+            number,
+            reads: lent(reads, reads_len).to_vec(),
+            names: Names::of(first_named, second_named),
+        });
     stocklog_append_decision(log: *mut u8, log_len: usize, tail: u64, offset: u64, outcome: u32) out 4 =>
         boundary::append(dir, lent_mut(log, log_len), tail as usize, &Request::Decision { offset, outcome });
     stocklog_append_checkpoint(log: *mut u8, log_len: usize, tail: u64, hosted: u64, position: u64, count: u64,

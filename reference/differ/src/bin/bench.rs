@@ -14,7 +14,10 @@
 //! After the logs of the eight come those over a directory of 64 sparse ids, of 16,384 entries and more where there are such sizes;
 //! the archive of the other landing is not measured on them.
 //!
+//! Then come logs whose commits name numbers: a play of everything that goes on from a later entry, beside a play from offset 0.
+//!
 //! `bench --takes-directory` has status 0 where the linked archive takes a directory; else it is ended by a signal, as likely as not.
+//! `bench --takes-names` likewise, where its append of a commit takes the numbers that it names.
 //! `bench --has CALL` has status 0 where it has that call as it is now.
 //!
 //! With `--worst` the logs are those that are made to be slow, each beside one that is not, and some whose commit is
@@ -23,7 +26,8 @@
 use std::process::ExitCode;
 use std::{env, fs};
 
-use differ::measure::{has, measured, takes_directory, Side, CALLS, PLOTTED};
+use differ::measure::{has, measured, takes_directory, takes_names, Side, CALLS, PLOTTED};
+use differ::naming::{FROM_0, LATER};
 use differ::orders;
 use differ::page::{self, Slow};
 use differ::plot::plot;
@@ -173,6 +177,26 @@ fn sparse(options: &Options) -> Result<String, String> {
     Ok(page::sparse(&tables))
 }
 
+/// The tables of plays on logs whose commits name numbers.
+fn naming(options: &Options) -> Result<String, String> {
+    let mut tables = Vec::new();
+    for log in [FROM_0.name].into_iter().chain(LATER.map(|log| log.name)) {
+        eprintln!("{log}");
+        let from_0 = Column {
+            words: "proved from offset 0",
+            ..Column::library(Some(FROM_0.name))
+        };
+        let columns = [
+            Column::library(Some(log)),
+            from_0,
+            Column::reference(Some(log)),
+        ];
+        let of_log = rows("play", &columns, &options.asked)?;
+        tables.push((log, page::table(&of_log, &columns, options.asked.limit)));
+    }
+    Ok(page::naming(&tables))
+}
+
 fn depots(options: &Options) -> Result<(), String> {
     let columns = columns(&options.before);
     let mut all = Vec::new();
@@ -184,7 +208,11 @@ fn depots(options: &Options) -> Result<(), String> {
     let priced = rows("price", &columns, &options.asked)?;
     let prices = page::prices(&priced, &columns, options.asked.limit);
     let sparse = sparse(options)?;
-    let tables = format!("{table}\n{}\n{prices}\n{sparse}", beside.join("\n"));
+    let naming = naming(options)?;
+    let tables = format!(
+        "{table}\n{}\n{prices}\n{naming}\n{sparse}",
+        beside.join("\n")
+    );
     print!("{tables}");
     if let Some(file) = &options.plot {
         store(file, &plot(&page::lines(&all, &columns)))?;
@@ -261,6 +289,7 @@ fn main() -> ExitCode {
     let words: Vec<&str> = words.iter().map(String::as_str).collect();
     match words[..] {
         ["--takes-directory"] => return ExitCode::from(u8::from(!takes_directory())),
+        ["--takes-names"] => return ExitCode::from(u8::from(!takes_names())),
         ["--has", call] => return ExitCode::from(u8::from(!has(call))),
         _ => {}
     }
