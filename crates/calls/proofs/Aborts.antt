@@ -1,5 +1,5 @@
--- A play's call across one commit record, by a replica that hosts all objects read: it aborts exactly on a stale read, since the
--- call is the model's by its contract.
+-- A play's call across one commit record, by a replica that hosts all objects read, and every object where a number is named: it aborts
+-- exactly on a stale read or a number that has not committed, since the call is the model's by its contract.
 use mathlib.Core.Path.{ap, sym, _∙_, subst}
 use Rattle.model.specs.Directory.{shapeOf}
 use Rattle.model.specs.Histories.{playOn}

@@ -96,6 +96,8 @@ calls-read-back c t d later g e i =
         objects = subst (λ (x : reading.Info). ObjectsGiven (inLog l) q (headerObjectsIn x)) (m .2) (back .objects);
         ascend = ap (λ (x : reading.Info). Rattle.lists.specs.Sets.ascending lib.Dec.ltb (headerObjectsIn x)) (sym (m .2)) ∙ back .ascend;
         items = subst (ItemsGiven q) (sym (items-promise (seen c .dir) (leftBy (seen c .left) t later) (l .tail) i)) (back .items);
+        first = ap (λ (x : reading.Info). x .first) (sym (m .2)) ∙ back .first;
+        second = ap (λ (x : reading.Info). x .second) (sym (m .2)) ∙ back .second;
       },
     )
 
@@ -121,13 +123,13 @@ module _ (dir : List ℕ) (l : Lent) (c : AppendCall) (t : ℕ) (of : seen c .di
       ∙ ap (λ (y : List ℕ). reading.itemList (shapeOf y) (inLog (lent (seen c .left) t)) (seen c .tail)) (sym of) ∙ sym (items-promise (seen c .dir) (lent (seen c .left) t) (seen c .tail) x)
 
 pub calls-same-bytes : CallsSameBytes
-calls-same-bytes c d t u same-dir given dc dd e i f j m n em en k x o p =
+calls-same-bytes c d t u same-dir given dc dd e i f j m n em en k x o first second p =
     let dir : List ℕ = seen c .dir in
     let l : Lent = lentAt c in
     let same = demand2-for dir .sameBytes l (seen c .request) (seen d .request) (infoOf m) (infoOf n)
     (accepted-so dir l c t refl refl dc) (accepted-so dir l d u (sym same-dir) (sym given) dd)
     (info-so dir l c t refl refl dc e ∙ ap foundIn em) (info-so dir l d u (sym same-dir) (sym given) dd f ∙ ap foundIn en)
-    k x o (items-so dir l c t refl refl dc i ∙ p ∙ sym (items-so dir l d u (sym same-dir) (sym given) dd j)) in
+    k x o first second (items-so dir l c t refl refl dc i ∙ p ∙ sym (items-so dir l d u (sym same-dir) (sym given) dd j)) in
     ap (λ (y : Lent). y .bytes) (sym (after-so dir l c t refl refl dc)) ∙ same ∙ ap (λ (y : Lent). y .bytes) (after-so dir l d u (sym same-dir) (sym given) dd)
 
 -- ---- the log stays good

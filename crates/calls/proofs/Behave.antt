@@ -11,12 +11,12 @@ use Rattle.model.specs.Entries.{Read, Held, Condition, commit as commits-at}
 use Rattle.model.specs.Table.{capacity, versionIn}
 use Rattle.model.specs.Answers.{done}
 use Rattle.model.specs.Append as model-append
-use Rattle.model.specs.Append.{commits, conditionGiven}
+use Rattle.model.specs.Append.{commits, readsGiven, conditionGiven}
 use Rattle.model.specs.Replica as model
 use Rattle.model.specs.Run.{Run}
 use Rattle.model.specs.Histories as model-histories
 use Rattle.model.specs.Histories.{Lent, isRefused, Accepted, grown, History, stood, ranTo, Passed, Carried, Opening, ifOpened, ifFresh, carried, Play, playOn, played, plays, opened, cellsWritten}
-use Rattle.model.specs.Terms.{Stale, Concerns, Fit, Ended}
+use Rattle.model.specs.Terms.{AbortsIn, Concerns, Fit, Ended}
 use Rattle.model.specs.Claims.{Waiting, SameOutcome, Shows}
 use Rattle.claims.proofs.Handed.{demand2-for, demand3-for}
 use Rattle.codec.specs.Eight.{inLog}
@@ -70,11 +70,11 @@ module _ (a : Appends) where
   module _ (k : Kept) (s : Shows (shapeOf (a .dir)) h (carry k)) where
     -- ---- the next play
 
-    waits-so : (p : PlayCall a k) → Waiting (Fit (shapeOf (a .dir)) (logAfter a (p .stoodAfter) .tail) (carry k) (stopOf (p .on))) (inLog (logAfter a (p .stoodAfter))) (hosts (a .dir) k)
+    waits-so : (p : PlayCall a k) → Waiting (shapeOf (a .dir)) (Fit (shapeOf (a .dir)) (logAfter a (p .stoodAfter) .tail) (carry k) (stopOf (p .on))) (inLog (logAfter a (p .stoodAfter))) (hosts (a .dir) k)
         (k .replica .position) (stopOf (p .on)) (playLeft (p .on))
     waits-so p =
-        subst (Waiting (Fit (shapeOf (a .dir)) (logAfter a (p .stoodAfter) .tail) (carry k) (stopOf (p .on))) (inLog (logAfter a (p .stoodAfter))) (hosts (a .dir) k) (k .replica .position) (stopOf (p .on))) (played-so k p)
-        (subst (λ (l : Lent). Waiting (Fit (shapeOf (a .dir)) (l .tail) (carry k) (stopOf (p .on))) (inLog l) (hosts (a .dir) k) (k .replica .position) (stopOf (p .on)) (played (shapeOf (a .dir)) h (carry k) (playOf k p)))
+        subst (Waiting (shapeOf (a .dir)) (Fit (shapeOf (a .dir)) (logAfter a (p .stoodAfter) .tail) (carry k) (stopOf (p .on))) (inLog (logAfter a (p .stoodAfter))) (hosts (a .dir) k) (k .replica .position) (stopOf (p .on))) (played-so k p)
+        (subst (λ (l : Lent). Waiting (shapeOf (a .dir)) (Fit (shapeOf (a .dir)) (l .tail) (carry k) (stopOf (p .on))) (inLog l) (hosts (a .dir) k) (k .replica .position) (stopOf (p .on)) (played (shapeOf (a .dir)) h (carry k) (playOf k p)))
         (stood-left a (p .stoodAfter)) (s .waits (playOf k p)))
 
     ends-so : (p : PlayCall a k) → Ended (stopOf (p .on)) (playLeft (p .on)) ↔ Fit (shapeOf (a .dir)) (logAfter a (p .stoodAfter) .tail) (carry k) (stopOf (p .on))
@@ -93,26 +93,26 @@ module _ (a : Appends) where
 
     -- ---- committed reads
 
-    rereads-so : (before later : List AppendCall) (c : AppendCall) (n : ℕ) (items : List ℕ) → a .calls ≡ before ++ c ∷ later
-        → seen c .request ≡ commits n items → isRefused (tailIn (seen c .answer)) ≡ false
-        → (Stale (ran a (seen c .tail) .cells) (conditionGiven items) → ⊥)
-        → (x : Read) (r : ReadCall (a .dir) k (x .object) (x .key)) (held : Option Held) → List·Memᴰ x (conditionGiven items .reads)
+    rereads-so : (before later : List AppendCall) (c : AppendCall) (n : ℕ) (items : List ℕ) (first second : ℕ) → a .calls ≡ before ++ c ∷ later
+        → seen c .request ≡ commits n items first second → isRefused (tailIn (seen c .answer)) ≡ false
+        → (AbortsIn (ran a (seen c .tail)) (conditionGiven items first second) → ⊥)
+        → (x : Read) (r : ReadCall (a .dir) k (x .object) (x .key)) (held : Option Held) → List·Memᴰ x (readsGiven items)
         → readIn (r .call .answer) ≡ done held → versionIn held ≡ x .version
         → ran a (seen c .tail) .cells x.object x.key ≡ held
-    rereads-so before later c n items e q taken current x r held m g v =
+    rereads-so before later c n items first second e q taken current x r held m g v =
         let l : Lent = grown (shapeOf (a .dir)) (lent (a .bytes) 0) (requests before) in
         let at : l ≡ lentAt c = turn-left a before c later e in
         let turn : ranTo (shapeOf (a .dir)) h (l .tail) ≡ ran a (seen c .tail) = ap (λ (y : Lent). ranTo (shapeOf (a .dir)) h (y .tail)) at ∙ ran-so a (seen c .tail) in
-        let asked : h .requests ≡ requests before ++ commits n items ∷ requests later =
+        let asked : h .requests ≡ requests before ++ commits n items first second ∷ requests later =
         requests-split a before c later e ∙ ap (λ (y : model-append.Request). requests before ++ y ∷ requests later) q in
-        let accepted : Accepted (shapeOf (a .dir)) l (commits n items) =
-        subst (λ (y : Lent). Accepted (shapeOf (a .dir)) y (commits n items)) (sym at)
+        let accepted : Accepted (shapeOf (a .dir)) l (commits n items first second) =
+        subst (λ (y : Lent). Accepted (shapeOf (a .dir)) y (commits n items first second)) (sym at)
         (ap (λ (y : model-append.Request). isRefused (model-append.append (shapeOf (a .dir)) (seen c .bytes) (seen c .tail) y .newTail)) (sym q)
         ∙ ap (λ (y : List ℕ). isRefused (model-append.append (shapeOf y) (seen c .bytes) (seen c .tail) (seen c .request) .newTail)) (sym (turn-dir a before c later e))
         ∙ ap (λ (y : model-append.Appended). isRefused (y .newTail)) (sym (append-promise c)) ∙ taken) in
         ap (λ (y : Run). y .cells x.object x.key) (sym turn)
-        ∙ s .rereads (requests before) (requests later) n items asked accepted
-        (λ stale. current (subst (λ (y : Run). Stale (y .cells) (conditionGiven items)) turn stale))
+        ∙ s .rereads (requests before) (requests later) n items first second asked accepted
+        (λ aborts. current (subst (λ (y : Run). AbortsIn y (conditionGiven items first second)) turn aborts))
         x held m (sym (read-promise (a .dir) k (x .object) (x .key) r) ∙ g) v
 
   -- ---- the outcome at a commit record

@@ -31,18 +31,19 @@ use Rattle.calls.proofs.Behave.{passed, opened-so, plays-so}
 -- ---- commits
 
 -- the answer of a commit's call is the model's
-answered : (c : AppendCall) (n : ℕ) (items : List ℕ) → seen c .request ≡ commits n items → tailIn (seen c .answer) ≡ appendTo (shapeOf (seen c .dir)) (lentAt c) (commits n items) .newTail
-answered c n items e = ap (λ (x : model.Appended). x .newTail) (append-promise c) ∙ ap (λ (q : model.Request). appendTo (shapeOf (seen c .dir)) (lentAt c) q .newTail) e
+answered : (c : AppendCall) (n : ℕ) (items : List ℕ) (first second : ℕ) → seen c .request ≡ commits n items first second
+    → tailIn (seen c .answer) ≡ appendTo (shapeOf (seen c .dir)) (lentAt c) (commits n items first second) .newTail
+answered c n items first second e = ap (λ (x : model.Appended). x .newTail) (append-promise c) ∙ ap (λ (q : model.Request). appendTo (shapeOf (seen c .dir)) (lentAt c) q .newTail) e
 
 pub calls-tell-astray : CallsTellAstray
-calls-tell-astray c n items i e =
-    let m = tells-astray-for (seen c .dir) (lentAt c) n items i in
-    (λ h. m .0 (sym (answered c n items e) ∙ h), λ f. answered c n items e ∙ m .1 f)
+calls-tell-astray c n items first second i e =
+    let m = tells-astray-for (seen c .dir) (lentAt c) n items first second i in
+    (λ h. m .0 (sym (answered c n items first second e) ∙ h), λ f. answered c n items first second e ∙ m .1 f)
 
 pub calls-astray-none : CallsAstrayNone
-calls-astray-none c n items t e d later g x m =
+calls-astray-none c n items first second t e d later g x m =
     subst (λ (l : Lent). Pointed (inLog l) x) (ap (λ (q : model.Request). grown (shapeOf (seen c .dir)) (after (shapeOf (seen c .dir)) (lentAt c) q) (requests later)) (sym e) ∙ later-so (seen c .dir) (lentAt c) c t refl refl d later g)
-    (astray-none-for (seen c .dir) (lentAt c) n items (ap (λ (q : model.Request). Rattle.model.specs.Histories.isRefused (appendTo (shapeOf (seen c .dir)) (lentAt c) q .newTail)) (sym e) ∙ accepted-so (seen c .dir) (lentAt c) c t refl refl d) (requests later) x m)
+    (astray-none-for (seen c .dir) (lentAt c) n items first second (ap (λ (q : model.Request). Rattle.model.specs.Histories.isRefused (appendTo (shapeOf (seen c .dir)) (lentAt c) q .newTail)) (sym e) ∙ accepted-so (seen c .dir) (lentAt c) c t refl refl d) (requests later) x m)
 
 -- ---- what a replica shows
 
@@ -73,8 +74,8 @@ module _ (a : Appends) (k : Kept) (o key : ℕ) (held : Option Held) (s : ShownV
   shown-so = record {
     past = s .past;
     pointed = pointed-so;
-    taken = λ m low later g c n items before rest of given e reads told.
-        let f : FirstAstray (shapeOf (seen c .dir)) (lentAt c) n items (length before) = calls-tell-astray c n items (length before) e .0 told in
+    taken = λ m low later g c n items first second before rest of given e reads told.
+        let f : FirstAstray (shapeOf (seen c .dir)) (lentAt c) n items first second (length before) = calls-tell-astray c n items first second (length before) e .0 told in
         let x : f .read ≡ readOf o key held = same-place (f .before) before (f .read) (readOf o key held) (f .rest) rest (sym (f .reads) ∙ reads) (f .place) in
         f .astray (subst (Pointed (inLog (lentAt c))) (sym x) (subst (λ (l : Lent). Pointed (inLog l) (readOf o key held)) (sym given) (pointed-so m low later g)));
   }

@@ -15,12 +15,12 @@ use Rattle.model.specs.Entries.{Write, Read, Held, Saved, Condition, commit as 
 use Rattle.model.specs.Table.{capacity, versionIn}
 use Rattle.model.specs.Answers.{done}
 use Rattle.model.specs.Reading.{itemsFrom}
-use Rattle.model.specs.Append.{commits, conditionGiven}
+use Rattle.model.specs.Append.{commits, readsGiven, conditionGiven}
 use Rattle.model.specs.Replica.{plainly}
 use Rattle.model.specs.Run.{madeAll}
 use Rattle.model.specs.Histories.{Lent, isRefused, cellsWritten}
-use Rattle.model.specs.Terms.{Directed, Listed, GoodFrame, AllGood, Stale, Concerns, Blocked, Fit, Playable, Ended, Makes, Unstopped}
-use Rattle.model.specs.Claims.{Bytes, Waiting, doneWith, kindGiven, NumberGiven, ObjectsGiven, ItemsGiven, headerObjectsIn, Alone, AbortsAlone, Audits, OpenedAt}
+use Rattle.model.specs.Terms.{Directed, Listed, GoodFrame, AllGood, AbortsIn, Concerns, Blocked, Fit, Playable, Ended, Makes, Unstopped}
+use Rattle.model.specs.Claims.{Bytes, Waiting, doneWith, kindGiven, NumberGiven, ObjectsGiven, ItemsGiven, firstGiven, secondGiven, headerObjectsIn, Alone, AbortsAlone, Audits, OpenedAt}
 use Rattle.codec.specs.Eight.{slotSize, inLog}
 use Rattle.answers.specs.declared.Checked.the-variants as checked
 use Rattle.entries.specs.declared.calls.Info.{Info}
@@ -52,7 +52,7 @@ pub record PlayLeaves (d : List ℕ) (log : Lent) (k : Kept) (p : PlayOn d log k
   -- a play to its own position is done and leaves the same
   pub stopped : Playable (shapeOf d) log (carry k) (stopOf p) → (q : PlayOn d log k) → stopOf q ≡ kept p .replica .position
       → playLeft q ≡ doneWith (replicaIn (kept p .replica)) (kept p .table)
-  pub waits : Waiting (Playable (shapeOf d) log (carry k) (stopOf p)) (inLog log) (hosts d k) (k .replica .position) (stopOf p) (playLeft p)
+  pub waits : Waiting (shapeOf d) (Playable (shapeOf d) log (carry k) (stopOf p)) (inLog log) (hosts d k) (k .replica .position) (stopOf p) (playLeft p)
   -- 13 only where the entry at its position makes more writes than the table has rows free
   pub lacks : playLeft p .answer ≡ plainly 13 → (ws : List Write) × Makes (inLog log) (kept p .replica .position) ws × (capacity (k .table) < kept p .replica .count + length ws)
 
@@ -94,6 +94,8 @@ pub record Returns (c : AppendCall) (answer : Info) (handed : List ℕ) : Type 0
   pub objects : ObjectsGiven (inLog (lentAt c)) (seen c .request) (headerObjectsIn (infoOf answer))
   pub ascend : ascending ltb (headerObjectsIn (infoOf answer)) ≡ true
   pub items : ItemsGiven (seen c .request) handed
+  pub first : infoOf answer .first ≡ firstGiven (seen c .request)
+  pub second : infoOf answer .second ≡ secondGiven (seen c .request)
 
 -- what was appended reads back (17.3)
 abbrev pub CallsReadBack : Type 0
@@ -113,9 +115,10 @@ CallsSameBytes = (c d : AppendCall) (t u : ℕ) → seen c .dir ≡ seen d .dir 
     → (f : EntryCall (seen d .dir) (record { bytes = seen d .left; tail = u }) (seen d .tail)) (j : ItemsCall (seen d .dir) (record { bytes = seen d .left; tail = u }) (seen d .tail))
     → (m n : Info) → e .call .answer ≡ found.Entry m → f .call .answer ≡ found.Entry n
     → infoOf m .kind ≡ infoOf n .kind → infoOf m .number ≡ infoOf n .number → headerObjectsIn (infoOf m) ≡ headerObjectsIn (infoOf n)
+    → infoOf m .first ≡ infoOf n .first → infoOf m .second ≡ infoOf n .second
     → part i ≡ part j → seen c .left ≡ seen d .left
 
--- a play across one commit record, on any bytes, aborts exactly on a stale read (17.6)
+-- a play across one commit record, on any bytes, aborts exactly on a stale read or an unmet number (17.6)
 abbrev pub CallsAbort : Type 0
 CallsAbort = (d : List ℕ) (log : Lent) (k : Kept) (p : PlayOn d log k) (n : ℕ) (c : Condition) → stopOf p ≡ k .replica .position + 1
     → Alone (shapeOf d) log (carry k) n c → AbortsAlone (shapeOf d) log (carry k) n c (playLeft p)
@@ -143,29 +146,29 @@ pub record CallsOpen : Type 0 where
 -- a play from a commit record of the replica's objects to the next offset, on the log as it stood: the run's outcome, or it waits
 pub record Crosses (a : Appends) (k : Kept) (p : PlayCall a k) (n : ℕ) (c : Condition) : Type 0 where
   pub ends : Ended (k .replica .position + 1) (playLeft (p .on))
-  pub aborts : playLeft (p .on) .answer ≡ done tt → Stale (ran a (k .replica .position) .cells) c → (o key : ℕ) → mem o (hosts (a .dir) k) ≡ true → isCell (shapeOf (a .dir)) o key ≡ true
+  pub aborts : playLeft (p .on) .answer ≡ done tt → AbortsIn (ran a (k .replica .position)) c → (o key : ℕ) → mem o (hosts (a .dir) k) ≡ true → isCell (shapeOf (a .dir)) o key ≡ true
       → (before : ReadCall (a .dir) k o key) (after : ReadCall (a .dir) (kept (p .on)) o key) → readIn (after .call .answer) ≡ readIn (before .call .answer)
-  pub makes : playLeft (p .on) .answer ≡ done tt → (Stale (ran a (k .replica .position) .cells) c → ⊥) → (o key : ℕ) → mem o (hosts (a .dir) k) ≡ true → isCell (shapeOf (a .dir)) o key ≡ true
+  pub makes : playLeft (p .on) .answer ≡ done tt → (AbortsIn (ran a (k .replica .position)) c → ⊥) → (o key : ℕ) → mem o (hosts (a .dir) k) ≡ true → isCell (shapeOf (a .dir)) o key ≡ true
       → (after : ReadCall (a .dir) (kept (p .on)) o key)
       → readIn (after .call .answer) ≡ done (madeAll (k .replica .position + 1) (ran a (k .replica .position) .aside n) (ran a (k .replica .position) .cells) o key)
-  pub waits : (playLeft (p .on) .answer ≡ plainly 12) ↔ Blocked (inLog (logAfter a (p .stoodAfter))) (hosts (a .dir) k) (k .replica .position)
-  pub lacks : playLeft (p .on) .answer ≡ plainly 13 → Stale (ran a (k .replica .position) .cells) c → ⊥
+  pub waits : (playLeft (p .on) .answer ≡ plainly 12) ↔ Blocked (shapeOf (a .dir)) (inLog (logAfter a (p .stoodAfter))) (hosts (a .dir) k) (k .replica .position)
+  pub lacks : playLeft (p .on) .answer ≡ plainly 13 → AbortsIn (ran a (k .replica .position)) c → ⊥
 
 -- what the calls on a replica say after its plays: the sentences of `Shows` in the model's claims
 pub record Behaves (a : Appends) (k : Kept) : Type 0 where
   pub cells : (o key : ℕ) (c : ReadCall (a .dir) k o key) → mem o (hosts (a .dir) k) ≡ true → isCell (shapeOf (a .dir)) o key ≡ true
       → readIn (c .call .answer) ≡ done (ran a (k .replica .position) .cells o key)
   pub count : k .replica .count ≡ cellsWritten (shapeOf (a .dir) .objects) (hosts (a .dir) k) (ran a (k .replica .position) .cells)
-  pub waits : (p : PlayCall a k) → Waiting (Fit (shapeOf (a .dir)) (logAfter a (p .stoodAfter) .tail) (carry k) (stopOf (p .on))) (inLog (logAfter a (p .stoodAfter))) (hosts (a .dir) k)
+  pub waits : (p : PlayCall a k) → Waiting (shapeOf (a .dir)) (Fit (shapeOf (a .dir)) (logAfter a (p .stoodAfter) .tail) (carry k) (stopOf (p .on))) (inLog (logAfter a (p .stoodAfter))) (hosts (a .dir) k)
       (k .replica .position) (stopOf (p .on)) (playLeft (p .on))
   pub ends : (p : PlayCall a k) → Ended (stopOf (p .on)) (playLeft (p .on)) ↔ Fit (shapeOf (a .dir)) (logAfter a (p .stoodAfter) .tail) (carry k) (stopOf (p .on))
   pub lacks : (p : PlayCall a k) → playLeft (p .on) .answer ≡ plainly 13
       → capacity (k .table) < cellsWritten (shapeOf (a .dir) .objects) (hosts (a .dir) k) (ran a (kept (p .on) .replica .position + 1) .cells)
   -- a committed read of an accepted commit, made again at its turn
-  pub rereads : (before later : List AppendCall) (c : AppendCall) (n : ℕ) (items : List ℕ) → a .calls ≡ before ++ c ∷ later
-      → seen c .request ≡ commits n items → isRefused (tailIn (seen c .answer)) ≡ false
-      → (Stale (ran a (seen c .tail) .cells) (conditionGiven items) → ⊥)
-      → (x : Read) (r : ReadCall (a .dir) k (x .object) (x .key)) (held : Option Held) → List·Memᴰ x (conditionGiven items .reads)
+  pub rereads : (before later : List AppendCall) (c : AppendCall) (n : ℕ) (items : List ℕ) (first second : ℕ) → a .calls ≡ before ++ c ∷ later
+      → seen c .request ≡ commits n items first second → isRefused (tailIn (seen c .answer)) ≡ false
+      → (AbortsIn (ran a (seen c .tail)) (conditionGiven items first second) → ⊥)
+      → (x : Read) (r : ReadCall (a .dir) k (x .object) (x .key)) (held : Option Held) → List·Memᴰ x (readsGiven items)
       → readIn (r .call .answer) ≡ done held → versionIn held ≡ x .version
       → ran a (seen c .tail) .cells x.object x.key ≡ held
   pub outcomes : (p : PlayCall a k) (n : ℕ) (c : Condition) → stopOf (p .on) ≡ k .replica .position + 1
