@@ -7,9 +7,13 @@ use Rattle.answers.specs.declared.Refusal.{Refusal}
 use Rattle.answers.specs.Refusals.{refusalIn}
 use Rattle.stocklog.specs.Replies.{Values, values, Reply, Replied, reply, orZero}
 use Rattle.stocklog.specs.declared.numbers.Numbers.{Numbers}
+use Rattle.stocklog.specs.declared.numbers.More.{More}
 
 abbrev pub numbersIn : Numbers → Reply
 numbersIn n = reply (n .number) (values (n .first) (n .second) (n .third)) (n .told)
+
+abbrev pub moreIn : More → Values
+moreIn m = values (m .items) (m .first) (m .second)
 
 -- a refusal's number, and what it tells or 0
 pub refusal-is : (r : Refusal) (v : Values) {n o : ℕ} {told : Option ℕ} → n ≡ refusalIn r .number → told ≡ refusalIn r .told → orZero told ≡ o

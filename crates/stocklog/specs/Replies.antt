@@ -62,19 +62,19 @@ offsetValues (some o) = values 1 o 0
 abbrev pub owedReply : Answer (Option ℕ) → Reply
 owedReply a = coded offsetValues noValues a
 
--- kind, number and how many headers; in the fifth place how many items. Eight places in all.
+-- kind, number and how many headers; from the fifth place on how many items, and the two numbers named. Eight places in all.
 abbrev pub infoValues : Info → Values
 infoValues i = values (i .kind) (i .number) (length (i .headers))
 
-abbrev pub itemsTold : Answer Info → ℕ
-itemsTold (done i) = i .items
-itemsTold (refused r) = 0
+abbrev pub moreTold : Answer Info → Values
+moreTold (done i) = values (i .items) (i .first) (i .second)
+moreTold (refused r) = noValues
 
-abbrev pub longer : Reply → ℕ → Reply
-longer r n = record { number = r .number; out = r .out ++ (n ∷ 0 ∷ 0 ∷ 0 ∷ []) }
+abbrev pub longer : Reply → Values → Reply
+longer r v = record { number = r .number; out = r .out ++ (v .first ∷ v .second ∷ v .third ∷ 0 ∷ []) }
 
 abbrev pub entryReply : Answer Info → Reply
-entryReply a = longer (coded infoValues noValues a) (itemsTold a)
+entryReply a = longer (coded infoValues noValues a) (moreTold a)
 
 -- one of the headers by its place, or 3
 abbrev pub nth : List Header → ℕ → Answer Header

@@ -7,6 +7,7 @@ ghost use Rattle.stocklog.specs.Replies.{numberReply, appendReply};
 ghost use Rattle.stocklog.specs.Numbers.{numbersIn};
 use crate::numbers::Numbers;
 use append::write::Appended;
+use codec::names::Names;
 use codec::names::ObjectId;
 use codec::names::Offset;
 use codec::names::TxNumber;
@@ -37,7 +38,7 @@ pub extern "C" fn stocklog_append_update(
     crate::numbers::put(out, of_appended(a))
 }
 
-// A transaction's commit record.
+// A transaction's commit record, which names two numbers, 0 for none.
 #[no_mangle]
 pub extern "C" fn stocklog_append_commit(
     dir: &[u8],
@@ -45,11 +46,20 @@ pub extern "C" fn stocklog_append_commit(
     tail: usize,
     number: u32,
     reads: &[u8],
+    first: u32,
+    second: u32,
     out: &mut [u64; 4],
 ) -> u32
-    ensures { λ r. ⌜ record { reply = record { number = r; out = now (out .exit) }; lent = now (log .exit) } ≡ appendReply (model.append (shapeOf (now (dir .entry))) (now (log .entry)) tail (model.commits number (now (reads .entry)))) ⌝ }
+    ensures { λ r. ⌜ record { reply = record { number = r; out = now (out .exit) }; lent = now (log .exit) } ≡ appendReply (model.append (shapeOf (now (dir .entry))) (now (log .entry)) tail (model.commits number (now (reads .entry)) first second)) ⌝ }
 {
-    let a = append::commit::commit(dir, log, tail, TxNumber(number), reads);
+    let a = append::commit::commit(
+        dir,
+        log,
+        tail,
+        TxNumber(number),
+        reads,
+        Names(first, second),
+    );
     crate::numbers::put(out, of_appended(a))
 }
 

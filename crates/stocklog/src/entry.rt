@@ -5,8 +5,9 @@ ghost use Rattle.model.specs.Reading.{entryCall, itemList};
 ghost use Rattle.codec.specs.Eight.{logOf};
 ghost use Rattle.codec.specs.Marks.{kindOf};
 ghost use Rattle.entries.specs.Answers.{headerFrom, infoOf, foundIn};
-ghost use Rattle.stocklog.specs.Replies.{reply, coded, noValues, infoValues, itemsTold, entryReply, nth, headerIn, headerCall, headerValues, headerReply, itemsReply, partSaid};
-ghost use Rattle.stocklog.specs.Numbers.{numbersIn};
+ghost use Rattle.stocklog.specs.Replies.{reply, coded, noValues, infoValues, moreTold, entryReply, nth, headerIn, headerCall, headerValues, headerReply, itemsReply, partSaid};
+ghost use Rattle.stocklog.specs.Numbers.{numbersIn, moreIn};
+use crate::numbers::More;
 use crate::numbers::Numbers;
 use answers::Refusal;
 use codec::layout::ITEM_SIZE;
@@ -44,17 +45,28 @@ fn of_entry(f: Found) -> Numbers
     }
 }
 
-// How many items; 0 where it is refused.
-fn items_of(f: Found) -> u64
-    ensures { λ n. ⌜ n ≡ itemsTold (foundIn f) ⌝ }
+// How many items, and the two numbers that it names; zeros where it is refused.
+fn more_of(f: Found) -> More
+    ensures { λ m. ⌜ moreIn m ≡ moreTold (foundIn f) ⌝ }
 {
     match f {
-        Found::Entry(i) => i.items as u64,
-        Found::Refused(_) => 0,
+        Found::Entry(i) => {
+            let names = i.names;
+            More {
+                items: i.items as u64,
+                first: names.0 as u64,
+                second: names.1 as u64,
+            }
+        }
+        Found::Refused(_) => More {
+            items: 0,
+            first: 0,
+            second: 0,
+        },
     }
 }
 
-// Kind, number and how many headers; in the fifth place how many items.
+// Kind, number and how many headers; from the fifth place on how many items, and the numbers that it names.
 #[no_mangle]
 pub extern "C" fn stocklog_entry(
     dir: &[u8],
@@ -66,7 +78,7 @@ pub extern "C" fn stocklog_entry(
     ensures { λ r. ⌜ record { number = r; out = now (out .exit) } ≡ entryReply (entryCall (shapeOf (now (dir .entry))) (logOf (now (log .entry)) tail) offset) ⌝ }
 {
     let f = entries::calls::entry(dir, log, tail, Offset(offset));
-    crate::numbers::put_eight(out, of_entry(f), items_of(f))
+    crate::numbers::put_eight(out, of_entry(f), more_of(f))
 }
 
 fn of_header(h: Header) -> Numbers

@@ -2,7 +2,7 @@
 ghost use mathlib.Core.Path.{_≡_};
 ghost use Rattle.answers.specs.Refusals.{refusalIn};
 ghost use Rattle.stocklog.specs.Replies.{values, reply, orZero, longer};
-ghost use Rattle.stocklog.specs.Numbers.{numbersIn};
+ghost use Rattle.stocklog.specs.Numbers.{numbersIn, moreIn};
 use answers::Refusal;
 use answers::Told;
 
@@ -12,6 +12,13 @@ pub struct Numbers {
     pub second: u64,
     pub third: u64,
     pub told: u64,
+}
+
+// What the entry call says in the fifth place and after it.
+pub struct More {
+    pub items: u64,
+    pub first: u64,
+    pub second: u64,
 }
 
 // Done, with three values.
@@ -59,10 +66,19 @@ pub fn put(out: &mut [u64; 4], n: Numbers) -> u32
     n.number
 }
 
-// The same for the eight places of the entry call, with the number of items in the fifth.
-pub fn put_eight(out: &mut [u64; 8], n: Numbers, items: u64) -> u32
-    ensures { λ r. ⌜ record { number = r; out = now (out .exit) } ≡ longer (numbersIn n) items ⌝ }
+// The same for the eight places of the entry call.
+pub fn put_eight(out: &mut [u64; 8], n: Numbers, m: More) -> u32
+    ensures { λ r. ⌜ record { number = r; out = now (out .exit) } ≡ longer (numbersIn n) (moreIn m) ⌝ }
 {
-    *out = [n.first, n.second, n.third, n.told, items, 0, 0, 0];
+    *out = [
+        n.first,
+        n.second,
+        n.third,
+        n.told,
+        m.items,
+        m.first,
+        m.second,
+        0,
+    ];
     n.number
 }
