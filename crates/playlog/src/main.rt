@@ -2,7 +2,7 @@
 mod cells;
 mod outcomes;
 
-ghost use Rattle.laws.specs.Ruled.{Ruled};
+ghost use Rattle.playlog.specs.Outcomes.{Reportable};
 use answers::Checked;
 use answers::Refusal;
 use codec::layout::SLOT_SIZE;
@@ -12,7 +12,7 @@ const EIGHT_SIZE: usize = 128;
 
 // The log is at most 256 slots, all of them used; the table has room for 2,730 cells.
 fn report(dir: &[u8], log: &[u8])
-    requires { ⌜ Ruled (now dir) ⌝ }
+    requires { ⌜ Reportable (now dir) (now log) ⌝ }
 {
     let tail = log.len() / SLOT_SIZE;
     let mut scratch = [0u8; 65520];

@@ -1,5 +1,6 @@
 // One append made, and its answer printed.
 use append::write::Appended;
+use codec::names::Names;
 use codec::names::ObjectId;
 use codec::names::Offset;
 use codec::names::TxNumber;
@@ -36,10 +37,17 @@ fn update(dir: &[u8], log: &mut [u8], tail: usize, number: u32, items: &[u8]) ->
     )
 }
 
-fn commit(dir: &[u8], log: &mut [u8], tail: usize, number: u32, items: &[u8]) -> usize {
+fn commit(
+    dir: &[u8],
+    log: &mut [u8],
+    tail: usize,
+    number: u32,
+    items: &[u8],
+    names: Names,
+) -> usize {
     io::write_all(1, b"commit");
     answer(
-        append::commit::commit(dir, log, tail, TxNumber(number), items),
+        append::commit::commit(dir, log, tail, TxNumber(number), items, names),
         tail,
     )
 }
@@ -65,6 +73,12 @@ fn checkpoint(
         append::checkpoint::checkpoint(dir, log, tail, r, table, ObjectId(object)),
         tail,
     )
+}
+
+// The two numbers at a place.
+fn names_at(input: &[u8], at: usize) -> Names {
+    let second = cases::after(input, at, 4);
+    Names(cases::word(input, at), cases::word(input, second))
 }
 
 // The decision at a place.
@@ -125,6 +139,9 @@ pub fn request(dir: &[u8], input: &[u8], at: usize, log: &mut [u8], tail: usize)
         let t = update(dir, log, tail, number, items);
         return Left { at: end, tail: t };
     }
-    let t = commit(dir, log, tail, number, items);
-    Left { at: end, tail: t }
+    let t = commit(dir, log, tail, number, items, names_at(input, end));
+    Left {
+        at: cases::after(input, end, 8),
+        tail: t,
+    }
 }

@@ -8,6 +8,7 @@ use crate::told::Told;
 use append::write::Appended;
 use codec::layout::ITEM_SIZE;
 use codec::layout::SLOT_SIZE;
+use codec::names::Names;
 use codec::names::ObjectId;
 use codec::names::Offset;
 use codec::names::TxNumber;
@@ -40,12 +41,19 @@ fn update(dir: &[u8], log: &mut [u8], t: Told) -> Appended {
     append::update::update(dir, log, t.tail as usize, TxNumber(0), &item)
 }
 
-// A commit record that reads the cell with version 0.
+// A commit record that reads the cell with version 0, and names no number.
 fn commit(dir: &[u8], log: &mut [u8], t: Told) -> Appended {
     io::write_all(1, b"commit");
     let mut item = [0u8; ITEM_SIZE];
     put_item(&mut item, t, 0, 0);
-    append::commit::commit(dir, log, t.tail as usize, TxNumber(NUMBER), &item)
+    append::commit::commit(
+        dir,
+        log,
+        t.tail as usize,
+        TxNumber(NUMBER),
+        &item,
+        Names(0, 0),
+    )
 }
 
 fn decision(dir: &[u8], log: &mut [u8], t: Told) -> Appended {

@@ -40,10 +40,13 @@ fn entry(dir: &[u8], log: &[u8], tail: usize) {
         Found::Entry(i) => {
             let k = i.kind;
             let n = i.number;
+            let names = i.names;
             printing::next(printing::kind(k));
             printing::next(printing::wide(n.0));
             printing::next(printing::wide(i.headers));
             printing::next(printing::wide(i.items));
+            printing::next(printing::wide(names.0));
+            printing::next(printing::wide(names.1));
         }
         Found::Refused(r) => printing::next_refusal(r),
     }

@@ -71,10 +71,13 @@ fn info(i: Info) {
     let second = i.second;
     let third = i.third;
     let fourth = i.fourth;
+    let names = i.names;
     printing::next(printing::kind(k));
     printing::next(n.0 as u64);
     printing::next(i.headers as u64);
     printing::next(i.items as u64);
+    printing::next(names.0 as u64);
+    printing::next(names.1 as u64);
     header(first, 0, i.headers);
     header(second, 1, i.headers);
     header(third, 2, i.headers);
