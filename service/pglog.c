@@ -21,7 +21,7 @@
 #include <time.h>
 #include <unistd.h>
 
-enum { TOKEN_SIZE = 16, AT_ONCE = 4096, PATIENCE = 60 /* seconds for a new connection */ };
+enum { TOKEN_SIZE = 16, AT_ONCE = 4096, FIRST_PATIENCE = 5, PATIENCE = 60 /* seconds */ };
 
 struct pg_store {
     struct store store;
@@ -42,11 +42,12 @@ static const char schema[] =
 
 /* ---- connections ---- */
 
-static PGconn *dial(const char *where)
+static const char *const keywords[] = {"fallback_application_name", "dbname", NULL};
+
+/* What the server says beside its answers is not passed on. */
+static void quiet(void *told, const char *notice)
 {
-    static const char *const keywords[] = {"fallback_application_name", "dbname", NULL};
-    const char *const values[] = {"stocklog", where, NULL};
-    return PQconnectdbParams(keywords, values, 1);
+    (void)told, (void)notice;
 }
 
 /* An acknowledged append is on the server's disk, also where the server's default is not to wait for that. */
@@ -59,14 +60,6 @@ static int wait_for_disk(PGconn *connection)
     return done;
 }
 
-static PGconn *connect_first(const char *where)
-{
-    PGconn *connection = dial(where);
-    if (PQstatus(connection) != CONNECTION_OK || !wait_for_disk(connection))
-        trouble("PostgreSQL cannot be reached: %s", PQerrorMessage(connection));
-    return connection;
-}
-
 static time_t seconds(void)
 {
     struct timespec now;
@@ -75,20 +68,31 @@ static time_t seconds(void)
     return now.tv_sec;
 }
 
-/* A new connection for one that was lost; the server may need a while to come back. */
-static void connect_again(struct pg_store *pg)
+/* A connection. A server that is down or starting is waited for; one that is up and turns this process away thrice is not. */
+static PGconn *connect_within(const char *where, int patience)
 {
-    time_t until = seconds() + PATIENCE;
+    const char *const values[] = {"stocklog", where, NULL};
+    time_t until = seconds() + patience;
+    int turned_away = 0;
     for (;;) {
-        PQfinish(pg->connection);
-        pg->connection = dial(pg->where);
-        if (PQstatus(pg->connection) == CONNECTION_OK && wait_for_disk(pg->connection))
-            return;
-        if (seconds() >= until)
-            trouble("PostgreSQL was lost and did not come back in %d seconds: %s. Whether an append that was under way is in can be seen with 'stocklog show'",
-                    PATIENCE, PQerrorMessage(pg->connection));
+        PGPing state = PQpingParams(keywords, values, 1);
+        PGconn *connection = PQconnectdbParams(keywords, values, 1);
+        PQsetNoticeProcessor(connection, quiet, NULL);
+        if (PQstatus(connection) == CONNECTION_OK && wait_for_disk(connection))
+            return connection;
+        turned_away += state == PQPING_OK;
+        if (state == PQPING_NO_ATTEMPT || turned_away == 3 || seconds() >= until)
+            trouble("PostgreSQL cannot be reached: %s", PQerrorMessage(connection));
+        PQfinish(connection);
         usleep(100000);
     }
+}
+
+/* A new connection for one that was lost. Where none comes, whether an append that was under way is in can be seen later. */
+static void connect_again(struct pg_store *pg)
+{
+    PQfinish(pg->connection);
+    pg->connection = connect_within(pg->where, PATIENCE);
 }
 
 /* Whether a result failed because the connection is gone: classes 08 and 57P, or no connection any more. */
@@ -260,7 +264,7 @@ struct store *postgres_open(const char *where)
     struct pg_store *pg = calloc(1, sizeof *pg);
     if (pg == NULL || (pg->where = strdup(where)) == NULL)
         trouble("no memory to open a log");
-    pg->connection = connect_first(where);
+    pg->connection = connect_within(where, FIRST_PATIENCE);
     pg->store.calls = &pg_calls;
     read_head(pg);
     pg->store.log.bytes = calloc(pg->store.log.slots + 1, STOCKLOG_SLOT_SIZE);
@@ -280,7 +284,7 @@ static void must(PGconn *connection, PGresult *result)
 
 void postgres_create(const char *where, const struct directory *directory, uint64_t slots)
 {
-    PGconn *connection = connect_first(where);
+    PGconn *connection = connect_within(where, FIRST_PATIENCE);
     uint8_t count[8];
     const char *values[] = {(const char *)directory->bytes, (const char *)directory->names, (const char *)count};
     const int lengths[] = {(int)directory->len, sizeof directory->names, 8}, formats[] = {1, 1, 1};

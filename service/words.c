@@ -37,6 +37,7 @@ __attribute__((format(printf, 2, 3))) static int refused(uint32_t result, const 
 {
     va_list words;
     va_start(words, format);
+    fflush(stdout); /* what was done comes first */
     fprintf(stderr, "refused %lu: ", (unsigned long)result);
     vfprintf(stderr, format, words);
     fputc('\n', stderr);
