@@ -26,7 +26,7 @@ static int run_new(const struct arguments *arguments)
     else
         directory_read(&directory, arguments->directory);
     store_create(arguments->words[0], &directory, slots);
-    printf("a log of %llu slots, with %u objects\n", (big)slots, directory_count(&directory));
+    printf("a new log; slots: %llu, objects: %u\n", (big)slots, directory_count(&directory));
     return ENDS_DONE;
 }
 
@@ -49,7 +49,7 @@ static int show_all(const struct log *log, const char *word)
         if (result != STOCKLOG_DONE)
             return refused_offset(log, from, result, entry);
     } else {
-        printf("%llu of %llu slots are used, with %u objects\n", (big)log->tail, (big)log->slots, directory_count(&log->directory));
+        printf("%llu of %llu slots are used; objects: %u\n", (big)log->tail, (big)log->slots, directory_count(&log->directory));
     }
     for (offset = from; offset < to; offset++)
         show_entry(log, offset);
@@ -71,7 +71,7 @@ static int run_check(const struct arguments *arguments)
     uint32_t result = check(&store->log, out);
     int ends = result == STOCKLOG_DONE ? ENDS_DONE : refused_log(&store->log, result, out);
     if (result == STOCKLOG_DONE)
-        printf("all %llu entries are good, and %llu slots are free\n", (big)store->log.tail, (big)(store->log.slots - store->log.tail));
+        printf("%llu of %llu slots are used, and every entry is good\n", (big)store->log.tail, (big)store->log.slots);
     store_close(store);
     return ends;
 }
@@ -83,7 +83,7 @@ static int run_audit(const struct arguments *arguments)
     uint32_t result = audit_log(&store->log, out);
     int ends = result == STOCKLOG_DONE ? ENDS_DONE : refused_log(&store->log, result, out);
     if (result == STOCKLOG_DONE)
-        printf("the audit passes: %llu entries, %llu cells\n", (big)store->log.tail, (big)out[2]);
+        printf("the audit passes; entries: %llu, cells: %llu\n", (big)store->log.tail, (big)out[2]);
     store_close(store);
     return ends;
 }
@@ -272,7 +272,7 @@ static int run_play(const struct arguments *arguments)
         usage_error("play: which objects is said with --host, as --host 2,5");
     result = play(&replica, log, asked_set(&log->directory, arguments->hosts[0]), arguments->to, &stop);
     if (result == STOCKLOG_DONE || result == STOCKLOG_WAITING) {
-        printf("at offset %llu, %llu cells\n", (big)replica.position, (big)replica.count);
+        printf("at offset %llu, cells: %llu\n", (big)replica.position, (big)replica.count);
         show_table(log, &replica);
     }
     if (result != STOCKLOG_DONE)

@@ -4,7 +4,7 @@
 usage: cut.py LISTEN SERVER SEED      (folders with sockets as libpq names them)
 
 One insert in 25 is cut: before the server has it, just after it was sent, or when the server has answered, which the depot then never
-learns. Ends on SIGTERM and prints how often each was done.
+learns. Ends on SIGTERM, prints how often each was done, and fails where one was done less than ten times.
 """
 import os
 import random
@@ -76,10 +76,15 @@ def requests(client, server_folder, chance):
     client.close()
 
 
+def end(*_):
+    print("inserts that were cut off: " + ", ".join(f"{how} {count}" for how, count in counts.items()), flush=True)
+    os._exit(0 if min(counts.values()) >= 10 else 1)
+
+
 def main():
     listen, server, seed = sys.argv[1:]
     chance = random.Random(int(seed))
-    signal.signal(signal.SIGTERM, lambda *_: (print(counts, flush=True), os._exit(0)))
+    signal.signal(signal.SIGTERM, end)
     door = socket.socket(socket.AF_UNIX)
     door.bind(os.path.join(listen, SOCKET))
     door.listen(64)

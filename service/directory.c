@@ -75,8 +75,7 @@ void directory_read(struct directory *directory, const char *file)
     if (directory->len == 0)
         usage_error("%s has no object", file);
     if (judge(directory, out) != STOCKLOG_DONE)
-        usage_error("%s, line %u: refused %d: place %llu of the directory; ids go from 1 to 2147483647 and ascend, the highest key of a map is at most 4294967294",
-                    file, lines[out[3]], STOCKLOG_DIRECTORY, (unsigned long long)out[3]);
+        refused_directory(file, lines[out[3]], out[3]);
 }
 
 int directory_load(struct directory *directory, const uint8_t *bytes, size_t len, const uint8_t *names)

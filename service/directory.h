@@ -26,7 +26,7 @@ struct directory {
 /* The depots' eight. */
 void directory_eight(struct directory *directory);
 
-/* Reads a text file. A line that cannot be read ends the program with status 2, and so does a directory that the library refuses. */
+/* Reads a text file. A line that cannot be read ends the program with status 2, a directory that the library refuses with status 1. */
 void directory_read(struct directory *directory, const char *file);
 
 /* The bytes and names as a log's storage has them. Returns 0 where they are no directory. */

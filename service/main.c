@@ -56,6 +56,8 @@ int main(int count, char *words[])
     for (at = 0; count > 1 && at < command_count; at++)
         if (strcmp(words[1], commands[at].name) == 0)
             ends = run(&commands[at], count - 2, words + 2);
+    if (ends < 0 && count > 1)
+        usage_error("there is no command %s; 'stocklog --help' lists them", words[1]);
     if (ends < 0) {
         help(stderr);
         return ENDS_USAGE;

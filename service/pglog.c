@@ -21,7 +21,7 @@
 #include <time.h>
 #include <unistd.h>
 
-enum { TOKEN_SIZE = 16, AT_ONCE = 4096, FIRST_PATIENCE = 5, PATIENCE = 60 /* seconds */ };
+enum { TOKEN_SIZE = 16, AT_ONCE = 4096, PATIENCE = 60 /* seconds */ };
 
 struct pg_store {
     struct store store;
@@ -69,11 +69,11 @@ static time_t seconds(void)
 }
 
 /* A connection. A server that is down or starting is waited for; one that is up and turns this process away thrice is not. */
-static PGconn *connect_within(const char *where, int patience)
+static PGconn *connect_to(const char *where)
 {
     const char *const values[] = {"stocklog", where, NULL};
-    time_t until = seconds() + patience;
-    int turned_away = 0;
+    time_t until = seconds() + PATIENCE;
+    int tries = 0, turned_away = 0;
     for (;;) {
         PGPing state = PQpingParams(keywords, values, 1);
         PGconn *connection = PQconnectdbParams(keywords, values, 1);
@@ -83,6 +83,8 @@ static PGconn *connect_within(const char *where, int patience)
         turned_away += state == PQPING_OK;
         if (state == PQPING_NO_ATTEMPT || turned_away == 3 || seconds() >= until)
             trouble("PostgreSQL cannot be reached: %s", PQerrorMessage(connection));
+        if (++tries == 20)
+            fprintf(stderr, "stocklog: PostgreSQL does not answer; trying for %d seconds\n", PATIENCE);
         PQfinish(connection);
         usleep(100000);
     }
@@ -92,7 +94,7 @@ static PGconn *connect_within(const char *where, int patience)
 static void connect_again(struct pg_store *pg)
 {
     PQfinish(pg->connection);
-    pg->connection = connect_within(pg->where, PATIENCE);
+    pg->connection = connect_to(pg->where);
 }
 
 /* Whether a result failed because the connection is gone: classes 08 and 57P, or no connection any more. */
@@ -264,7 +266,7 @@ struct store *postgres_open(const char *where)
     struct pg_store *pg = calloc(1, sizeof *pg);
     if (pg == NULL || (pg->where = strdup(where)) == NULL)
         trouble("no memory to open a log");
-    pg->connection = connect_within(where, FIRST_PATIENCE);
+    pg->connection = connect_to(where);
     pg->store.calls = &pg_calls;
     read_head(pg);
     pg->store.log.bytes = calloc(pg->store.log.slots + 1, STOCKLOG_SLOT_SIZE);
@@ -284,7 +286,7 @@ static void must(PGconn *connection, PGresult *result)
 
 void postgres_create(const char *where, const struct directory *directory, uint64_t slots)
 {
-    PGconn *connection = connect_within(where, FIRST_PATIENCE);
+    PGconn *connection = connect_to(where);
     uint8_t count[8];
     const char *values[] = {(const char *)directory->bytes, (const char *)directory->names, (const char *)count};
     const int lengths[] = {(int)directory->len, sizeof directory->names, 8}, formats[] = {1, 1, 1};

@@ -95,7 +95,9 @@ int __wrap_msync(void *address, size_t len, int flags)
     static int judging;
     size_t from;
     unsigned page;
-    if (mapped == NULL || judging || (uint8_t *)address < mapped || (uint8_t *)address >= mapped + SIZE)
+    if (judging)
+        return 0; /* of a log that stands for the disk, and is thrown away */
+    if (mapped == NULL || (uint8_t *)address < mapped || (uint8_t *)address >= mapped + SIZE)
         return __real_msync(address, len, flags);
     if (++syncs == fail_at) {
         errno = EIO;

@@ -47,6 +47,12 @@ __attribute__((format(printf, 2, 3))) static int refused(uint32_t result, const 
 
 typedef unsigned long long big;
 
+void refused_directory(const char *file, unsigned line, uint64_t place)
+{
+    exit(refused(STOCKLOG_DIRECTORY, "place %llu of the directory, %s, line %u: ids go from 1 to 2147483647 and ascend, and the highest key of a map is at most 4294967294",
+                 (big)place, file, line));
+}
+
 int refused_log(const struct log *log, uint32_t result, const uint64_t *out)
 {
     switch (result) {
@@ -162,6 +168,8 @@ int refused_request(const struct log *log, const struct request *request, uint32
     case STOCKLOG_CLOSED:
         return refused(result, "transaction %lu has a commit record already: take another number", number);
     case STOCKLOG_WIDE:
+        if (number == 0)
+            return refused(result, "the update writes more than four objects");
         return refused(result, "the update, or transaction %lu with it, writes more than four objects", number);
     case STOCKLOG_EMPTY:
         return refused(result, "transaction %lu has no update that it could commit", number);

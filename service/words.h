@@ -23,6 +23,7 @@ _Noreturn void trouble(const char *format, ...) __attribute__((format(printf, 1,
 /*
  * Each says "refused N: .." on standard error, with what N tells, and returns ENDS_REFUSED. They are told the call's result and its out.
  */
+_Noreturn void refused_directory(const char *file, unsigned line, uint64_t place); /* ends the program with status 1 */
 int refused_log(const struct log *log, uint32_t result, const uint64_t *out);
 int refused_offset(const struct log *log, uint64_t offset, uint32_t result, const uint64_t *out);
 int refused_sets(const struct log *log, uint32_t result, const uint64_t *out);
