@@ -112,25 +112,30 @@ static int has_state(const PGresult *result, const char *wanted)
 
 /* ---- the mirror ---- */
 
-/* The rows from an offset on, in binary. Asked again over a new connection where the one in use is lost. */
+/* What a query that only reads answers, in binary. It is asked again over a new connection where the one in use is lost. */
+static PGresult *ask(struct pg_store *pg, const char *query, int count, const char *const *values, const int *lengths, const int *formats)
+{
+    for (;;) {
+        PGresult *result = PQexecParams(pg->connection, query, count, NULL, values, lengths, formats, 1);
+        if (PQresultStatus(result) == PGRES_TUPLES_OK)
+            return result;
+        if (has_state(result, "42P01"))
+            trouble("there is no log in this database and schema: 'stocklog new' makes one");
+        if (!is_lost(pg->connection, result))
+            trouble("PostgreSQL does not hand out the log: %s", PQerrorMessage(pg->connection));
+        PQclear(result);
+        connect_again(pg);
+    }
+}
+
 static PGresult *rows_from(struct pg_store *pg, uint64_t from)
 {
     uint8_t bytes[8];
     const char *values[] = {(const char *)bytes};
     const int lengths[] = {8}, formats[] = {1};
     number_put(bytes, from, 8);
-    for (;;) {
-        PGresult *result = PQexecParams(pg->connection,
-                                        "SELECT log_offset, slot, token FROM stocklog_slots WHERE log_offset >= $1::bigint"
-                                        " ORDER BY log_offset LIMIT 4096",
-                                        1, NULL, values, lengths, formats, 1);
-        if (PQresultStatus(result) == PGRES_TUPLES_OK)
-            return result;
-        if (!is_lost(pg->connection, result))
-            trouble("PostgreSQL does not hand out the log: %s", PQerrorMessage(pg->connection));
-        PQclear(result);
-        connect_again(pg);
-    }
+    return ask(pg, "SELECT log_offset, slot, token FROM stocklog_slots WHERE log_offset >= $1::bigint ORDER BY log_offset LIMIT 4096", 1, values,
+               lengths, formats);
 }
 
 /* One row: the entry at the mirror's tail, or the one below it once more, which must be as it was. */
@@ -246,11 +251,7 @@ static const struct store_calls pg_calls = {pg_refresh, pg_append, pg_close};
 static void read_head(struct pg_store *pg)
 {
     struct log *log = &pg->store.log;
-    PGresult *head = PQexecParams(pg->connection, "SELECT directory, names, slots FROM stocklog_log", 0, NULL, NULL, NULL, NULL, 1);
-    if (has_state(head, "42P01"))
-        trouble("there is no log in this database and schema: 'stocklog new' makes one");
-    if (PQresultStatus(head) != PGRES_TUPLES_OK)
-        trouble("PostgreSQL does not hand out the log: %s", PQerrorMessage(pg->connection));
+    PGresult *head = ask(pg, "SELECT directory, names, slots FROM stocklog_log", 0, NULL, NULL, NULL);
     if (PQntuples(head) != 1 || PQgetlength(head, 0, 1) != sizeof log->directory.names ||
         !directory_load(&log->directory, (const uint8_t *)PQgetvalue(head, 0, 0), (size_t)PQgetlength(head, 0, 0),
                         (const uint8_t *)PQgetvalue(head, 0, 1)))
