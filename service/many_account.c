@@ -48,7 +48,7 @@ struct sums { unsigned done, refused, unknown, unknown_in; };
 static void judge(const struct attempt *attempt, struct sums *sums)
 {
     uint32_t *place = &found[attempt->kind][attempt->mark];
-    switch (attempt->state) {
+    switch (atomic_load(&attempt->state)) {
     case ATTEMPT_DONE:
         if (*place != attempt->offset + 1)
             wrong("the append of kind %d, mark %lu, acknowledged at %llu, is not there", attempt->kind, (unsigned long)attempt->mark,
