@@ -357,8 +357,8 @@ int main(int count, char *words[])
     test_growth();
     test_shown();
     test_lock();
-    test_ends_anywhere();
     test_lost_power();
+    test_ends_anywhere();
     printf("%u checks of the parts hold\n", checks);
     return 0;
 }
