@@ -5,6 +5,7 @@
  * was first: it fetches, makes the entry again and tries again. Each append has a token of its own, which stands in its row. Where the
  * connection is lost during an insert, a new one is made, the rows are fetched, and the token tells whether the entry is in. Where it is
  * not, the same offset is tried again: should the first insert still be under way, the primary key lets one of the two through.
+ * A connection counts as lost whenever the failure is not the server's own: libpq may call it good after a write that failed.
  *
  * A row for offset o is inserted only by who has seen that of o - 1, so there are no gaps.
  */
@@ -29,6 +30,8 @@ struct pg_store {
     PGconn *connection;
     uint8_t token[TOKEN_SIZE]; /* of the append that is under way */
     uint64_t own;              /* one more than the offset of a fetched row with that token; 0 where none has it */
+    int losing;                /* a connection was lost at lost_at, and what is under way has got no further since */
+    time_t lost_at;
 };
 
 static const char schema[] =
@@ -90,24 +93,35 @@ static PGconn *connect_to(const char *where)
     }
 }
 
-/* A new connection for one that was lost. Where none comes, whether an append that was under way is in can be seen later. */
+/* A new connection for one that was lost. Where none comes, or all are lost again, whether an append that was under way is in can be seen later. */
 static void connect_again(struct pg_store *pg)
 {
+    if (!pg->losing)
+        pg->lost_at = seconds();
+    else if (seconds() - pg->lost_at >= PATIENCE)
+        trouble("PostgreSQL's connections are lost again and again: %s", PQerrorMessage(pg->connection));
+    else
+        usleep(100000);
+    pg->losing = 1;
     PQfinish(pg->connection);
     pg->connection = connect_to(pg->where);
 }
 
-/* Whether a result failed because the connection is gone: classes 08 and 57P, or no connection any more. */
-static int is_lost(PGconn *connection, const PGresult *result)
-{
-    const char *state = PQresultErrorField(result, PG_DIAG_SQLSTATE);
-    return PQstatus(connection) != CONNECTION_OK || (state != NULL && (strncmp(state, "08", 2) == 0 || strncmp(state, "57P", 3) == 0));
-}
-
+/* Whether a result's SQLSTATE begins so. */
 static int has_state(const PGresult *result, const char *wanted)
 {
     const char *state = PQresultErrorField(result, PG_DIAG_SQLSTATE);
-    return state != NULL && strcmp(state, wanted) == 0;
+    return state != NULL && strncmp(state, wanted, strlen(wanted)) == 0;
+}
+
+/*
+ * Whether a result failed because the connection is gone. Every error of the server has an SQLSTATE, those of the classes 08 and 57P when
+ * it ends the connection. What failed without one failed here: libpq could not write or read. It need not say so by PQstatus: where a
+ * server that shuts down has sent a warning ahead, libpq reads that in place of an answer and calls the connection good.
+ */
+static int is_lost(PGconn *connection, const PGresult *result)
+{
+    return PQstatus(connection) != CONNECTION_OK || !has_state(result, "") || has_state(result, "08") || has_state(result, "57P");
 }
 
 /* ---- the mirror ---- */
@@ -160,21 +174,28 @@ static void take_row(struct pg_store *pg, const PGresult *rows, int at)
         pg->own = offset + 1;
 }
 
-static void pg_refresh(struct store *store)
+static void fetch(struct pg_store *pg)
 {
-    struct pg_store *pg = (struct pg_store *)store;
+    const struct log *log = &pg->store.log;
     int count;
     do {
-        uint64_t from = store->log.tail == 0 ? 0 : store->log.tail - 1;
+        uint64_t from = log->tail == 0 ? 0 : log->tail - 1;
         PGresult *rows = rows_from(pg, from);
         int at;
         count = PQntuples(rows);
-        if (count == 0 && store->log.tail > 0)
+        if (count == 0 && log->tail > 0)
             trouble("PostgreSQL no longer has the entry at offset %llu: the server was set back", (unsigned long long)from);
         for (at = 0; at < count; at++)
             take_row(pg, rows, at);
         PQclear(rows);
     } while (count == AT_ONCE);
+}
+
+static void pg_refresh(struct store *store)
+{
+    struct pg_store *pg = (struct pg_store *)store;
+    pg->losing = 0;
+    fetch(pg);
 }
 
 /* ---- appends ---- */
@@ -193,12 +214,14 @@ static int insert(struct pg_store *pg)
                           formats, 1);
     done = PQresultStatus(result) == PGRES_COMMAND_OK;
     lost = !done && is_lost(pg->connection, result);
-    taken = !done && has_state(result, "23505");
+    taken = !done && (has_state(result, "23505") || has_state(result, "40")); /* 40: undone for another's sake */
     PQclear(result);
     if (!done && !lost && !taken)
         trouble("PostgreSQL does not take the entry: %s", PQerrorMessage(pg->connection));
     if (lost)
         connect_again(pg);
+    else
+        pg->losing = 0;
     return done;
 }
 
@@ -207,6 +230,7 @@ static void new_token(struct pg_store *pg)
     if (getrandom(pg->token, TOKEN_SIZE, 0) != TOKEN_SIZE)
         trouble("no random bytes: %s", strerror(errno));
     pg->own = 0;
+    pg->losing = 0;
 }
 
 /*
@@ -219,7 +243,7 @@ static uint32_t pg_append(struct store *store, const struct request *request, ui
     new_token(pg);
     for (;;) {
         uint32_t result;
-        pg_refresh(store);
+        fetch(pg);
         if (pg->own != 0) {
             memset(out, 0, 4 * sizeof *out);
             out[0] = pg->own;
