@@ -17,6 +17,8 @@ static const char **place_of(struct arguments *arguments, const struct command *
         return &arguments->number;
     if (strcmp(option, "--to") == 0 && command->options & WITH_TO)
         return &arguments->to;
+    if (strcmp(option, "--after") == 0 && command->options & WITH_AFTER)
+        return &arguments->after;
     if (strcmp(option, "--host") == 0 && command->options & (WITH_HOST | WITH_HOSTS)) {
         if (arguments->host_count == (command->options & WITH_HOSTS ? MOST_HOSTS : 1))
             usage_error("%s: --host is given too often", command->name);

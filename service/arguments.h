@@ -7,12 +7,12 @@
 enum { MOST_WORDS = 20, MOST_HOSTS = 20 };
 
 /* Options, as bits of what a command takes. */
-enum { WITH_SLOTS = 1, WITH_DIRECTORY = 2, WITH_NUMBER = 4, WITH_HOST = 8, WITH_HOSTS = 16, WITH_TO = 32, WITH_OWED = 64 };
+enum { WITH_SLOTS = 1, WITH_DIRECTORY = 2, WITH_NUMBER = 4, WITH_HOST = 8, WITH_HOSTS = 16, WITH_TO = 32, WITH_OWED = 64, WITH_AFTER = 128 };
 
 struct arguments {
     const char *words[MOST_WORDS]; /* those that are no options */
     int count;
-    const char *slots, *directory, *number, *to;
+    const char *slots, *directory, *number, *to, *after;
     const char *hosts[MOST_HOSTS];
     int host_count;
     int owed;

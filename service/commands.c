@@ -324,10 +324,11 @@ const struct command commands[] = {
      run_put},
     {"remove", "FILE OBJECT:KEY .. [--number T]", "Appends an update of up to 12 removes. With a number it is set aside until that transaction's commit.\n",
      WITH_NUMBER, 2, MOST_WORDS, run_remove},
-    {"commit", "FILE T [OBJECT:KEY@VERSION ..]",
+    {"commit", "FILE T [OBJECT:KEY@VERSION ..] [--after N[,M]]",
      "Appends the commit record of transaction T with what it has read: cells and the versions that 'play' showed, ascending by\n"
-     "object, then key. It commits where each is still the cell's version. A refusal counts reads from 0.\n",
-     0, 2, MOST_WORDS, run_commit},
+     "object, then key. It commits where each is still the cell's version. A refusal counts reads from 0. With --after it commits\n"
+     "only if those transactions, one or two, have committed before it: a delivery after its order.\n",
+     WITH_AFTER, 2, MOST_WORDS, run_commit},
     {"decide", "FILE OFFSET [commit|abort], or FILE --owed --host SET ..",
      "Appends the decision record of the commit record at an offset, with the outcome that the log has unless one is said. With\n"
      "--owed, appends all that are owed to replicas of the sets.\n",

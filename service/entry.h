@@ -14,6 +14,7 @@ struct entry {
     uint64_t offset;
     int kind; /* STOCKLOG_UPDATE .. */
     uint32_t number;
+    uint32_t first, second; /* the numbers that a commit record names; 0 for none, and for all other entries */
     unsigned headers, items;
     uint32_t object[MOST_HEADERS];
     unsigned format[MOST_HEADERS];

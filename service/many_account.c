@@ -1,4 +1,5 @@
 /* At the end: the log beside what the depots tried. */
+#include "decisions.h"
 #include "entry.h"
 #include "many.h"
 #include "replica.h"
@@ -70,6 +71,38 @@ static void judge(const struct attempt *attempt, struct sums *sums)
         *place = 0; /* accounted for */
 }
 
+/* ---- commits that name numbers ---- */
+
+/* Whether a number has committed below an offset, as a replica of everything has it. */
+static int committed_below(const struct log *log, uint32_t number, uint64_t offset)
+{
+    uint32_t place = number < MARKS ? found[STOCKLOG_COMMIT][number] : 0;
+    return place != 0 && place - 1 < offset && outcome_of(log, place - 1) == STOCKLOG_COMMITTED;
+}
+
+/* Of those that name numbers: none commits unless all these have, and one without reads commits if they have. */
+static void judge_names(const struct log *log)
+{
+    unsigned counts[2] = {0, 0};
+    uint64_t offset;
+    for (offset = 0; offset < log->tail; offset++) {
+        struct entry entry;
+        int after, done;
+        entry_at(&entry, log, offset);
+        if (entry.first == 0)
+            continue;
+        after = committed_below(log, entry.first, offset) && (entry.second == 0 || committed_below(log, entry.second, offset));
+        done = outcome_of(log, offset) == STOCKLOG_COMMITTED;
+        if (done ? !after : after && entry.items == 0)
+            wrong("the commit at %llu, after %lu and %lu, %s", (unsigned long long)offset, (unsigned long)entry.first,
+                  (unsigned long)entry.second, done ? "committed" : "aborted");
+        counts[done]++;
+    }
+    if (counts[0] == 0 || counts[1] == 0)
+        wrong("of commits that name numbers %u committed and %u aborted; both were to be tried", counts[1], counts[0]);
+    printf("of the commits that name numbers %u committed, all those without reads whose numbers had; %u aborted\n", counts[1], counts[0]);
+}
+
 static void judge_log(const struct log *log)
 {
     uint64_t out[4];
@@ -92,6 +125,7 @@ void account(const struct many *many, const struct log *log)
     int kind;
     judge_log(log);
     find_entries(log);
+    judge_names(log);
     for (mark = 0; mark < MARKS; mark++)
         decisions += found[STOCKLOG_DECISION][mark] != 0;
     for (depot = 0; depot < many->depot_count; depot++) {

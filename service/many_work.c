@@ -4,7 +4,7 @@
 
 #include <unistd.h>
 
-enum { OBJECTS = 8, KEYS = 10 };
+enum { OBJECTS = 8, KEYS = 10, VAN = 4, ORDERS = 5 };
 
 /* The van's stock; filters and orders; the south depot with the next order's number and the price list's. */
 const uint64_t van_sets[VANS] = {1 << 3, 1 << 0 | 1 << 4, 1 << 2 | 1 << 5 | 1 << 6};
@@ -13,8 +13,10 @@ struct work {
     struct store *store;
     struct depot *depot;
     uint32_t first; /* marks of this depot are above it */
+    uint32_t depots;
     uint64_t seed;
     struct replica all;
+    uint32_t order, older; /* the numbers of the last two orders that this process made, 0 for none; older is below order */
 };
 
 /* ---- appends, each noted before it is tried and after ---- */
@@ -102,19 +104,25 @@ static void look(struct work *work)
         wrong("a replica of all objects was answered %lu", (unsigned long)result);
 }
 
-/* The commit of a number with the versions that its depot sees of up to three cells. With due 16 one is the version of no entry. */
-static void commit(struct work *work, uint32_t number, uint32_t due)
+/* Versions that the depot sees of up to three cells. */
+static void read_cells(struct work *work, struct request *request)
 {
-    struct request request;
     uint32_t object = 0, reads = any(&work->seed, 4);
-    request_start(&request, STOCKLOG_COMMIT, number);
     while (reads-- > 0 && (object += 1 + any(&work->seed, 3)) <= OBJECTS) {
         uint32_t key = any_key(work, object);
         uint64_t out[4];
         if (replica_cell(&work->all, &work->store->log, object, key, out) != STOCKLOG_DONE)
             wrong("cell (%lu,%lu) cannot be read", (unsigned long)object, (unsigned long)key);
-        request_read(&request, object, key, out[2]);
+        request_read(request, object, key, out[2]);
     }
+}
+
+/* The commit of a number. With due 16 one of its reads is the version of no entry. */
+static void commit(struct work *work, uint32_t number, uint32_t due)
+{
+    struct request request;
+    request_start(&request, STOCKLOG_COMMIT, number);
+    read_cells(work, &request);
     if (due == STOCKLOG_ASTRAY) {
         request.items_len = 0;
         request_read(&request, 2, 400, 1); /* no depot writes that cell */
@@ -136,13 +144,74 @@ static void transaction(struct work *work)
     pay(work);
 }
 
+/* ---- deliveries, whose commits name the numbers of their orders ---- */
+
+static void order(struct work *work)
+{
+    uint32_t number = new_mark(work);
+    look(work);
+    update(work, number, ORDERS, 0);
+    commit(work, number, 0);
+    work->older = work->order;
+    work->order = number;
+}
+
+/* A number that a delivery comes after: an order of its depot, a number of any depot, or one that its depot uses later or never. */
+static uint32_t any_name(struct work *work)
+{
+    switch (any(&work->seed, 4)) {
+    case 0:
+        return ((1 + any(&work->seed, work->depots)) << 16) + any(&work->seed, 400);
+    case 1:
+        return new_mark(work) + 1 + any(&work->seed, 20);
+    default:
+        return work->order;
+    }
+}
+
+/* The order that it names is there before it, unless another number is named; one in two has no reads. */
+static void delivery(struct work *work)
+{
+    struct request request;
+    uint32_t number, name;
+    order(work);
+    number = new_mark(work);
+    look(work);
+    update(work, number, VAN, 0);
+    request_start(&request, STOCKLOG_COMMIT, number);
+    if (any(&work->seed, 2) == 0)
+        read_cells(work, &request);
+    name = any_name(work);
+    request.first = name == number ? work->order : name;
+    if (request.first == work->order && work->older != 0 && any(&work->seed, 2) == 0) {
+        request.first = work->older;
+        request.second = work->order;
+    }
+    append(work, &request, number, 0);
+    pay(work);
+}
+
+/* A commit that names itself. */
+static void after_itself(struct work *work)
+{
+    struct request request;
+    request_start(&request, STOCKLOG_COMMIT, new_mark(work));
+    request.first = request.number;
+    append(work, &request, request.number, STOCKLOG_BAD_REQUEST);
+}
+
 /* An append that must be refused. */
 static void mistake(struct work *work)
 {
     struct request request;
-    if (any(&work->seed, 2) == 0) {
+    switch (any(&work->seed, 3)) {
+    case 0:
         update(work, 0, 2, STOCKLOG_BAD_REQUEST);
-    } else {
+        break;
+    case 1:
+        after_itself(work);
+        break;
+    default:
         request_start(&request, STOCKLOG_COMMIT, new_mark(work));
         append(work, &request, request.number, STOCKLOG_EMPTY);
     }
@@ -150,15 +219,21 @@ static void mistake(struct work *work)
 
 void depot_work(struct many *many, unsigned depot, const char *place, uint64_t seed)
 {
-    struct work work = {.store = store_open(place), .depot = &many->depots[depot], .first = (depot + 1) << 16, .seed = seed};
+    struct work work = {.store = store_open(place),
+                        .depot = &many->depots[depot],
+                        .first = (depot + 1) << 16,
+                        .depots = many->depot_count,
+                        .seed = seed};
     replica_open(&work.all, &work.store->log, directory_all(&work.store->log.directory));
     pay(&work); /* what a depot that was killed did not come to */
     while (atomic_load(&work.depot->done) < many->appends) {
         uint32_t what = any(&work.seed, 10);
         if (what < 5)
             update(&work, 0, 1 + any(&work.seed, OBJECTS), 0);
-        else if (what < 9)
+        else if (what < 8)
             transaction(&work);
+        else if (what < 9)
+            delivery(&work);
         else
             mistake(&work);
     }

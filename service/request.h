@@ -12,6 +12,7 @@ struct request {
     uint32_t number; /* of an update, 0 for a plain one, and of a commit */
     uint8_t items[MOST_HANDED * STOCKLOG_ITEM_SIZE]; /* writes of an update, reads of a commit */
     size_t items_len;
+    uint32_t first, second; /* numbers that a commit names: it may commit only after them; 0 for none */
     uint64_t offset; /* of the commit record that is decided */
     uint32_t outcome;
     uint32_t object; /* of a checkpoint */

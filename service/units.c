@@ -41,7 +41,18 @@ static struct store *new_log(const char *name)
     return store_open(name);
 }
 
-/* One append: plain updates, and a transaction of number 7 with its commit and decision, by turns. */
+/* The commit of a number comes after the one or two transactions before it. */
+static void name_earlier(struct request *request)
+{
+    if (request->number > 4)
+        request->first = request->number - 4;
+    if (request->number > 8) {
+        request->second = request->first;
+        request->first -= 4;
+    }
+}
+
+/* One append: plain updates, and transactions with their commits and decisions, by turns. */
 static uint32_t append(struct store *store, unsigned turn, uint64_t out[4])
 {
     struct request request;
@@ -51,6 +62,7 @@ static uint32_t append(struct store *store, unsigned turn, uint64_t out[4])
         break;
     case 2:
         request_start(&request, STOCKLOG_COMMIT, turn - 1);
+        name_earlier(&request);
         break;
     case 3:
         request_start(&request, STOCKLOG_DECISION, 0);
@@ -240,6 +252,7 @@ static void same_entry(const struct log *log, uint64_t offset)
     entry_at(&entry, log, offset);
     MUST(stocklog_entry(LOG_READ(log), offset, out) == STOCKLOG_DONE);
     MUST((uint64_t)entry.kind == out[0] && entry.number == out[1] && entry.headers == out[2] && entry.items == out[4]);
+    MUST(entry.first == out[5] && entry.second == out[6]);
     for (place = 0; place < entry.headers; place++) {
         MUST(stocklog_header(LOG_READ(log), offset, place, header) == STOCKLOG_DONE);
         MUST(entry.object[place] == header[0] && entry.format[place] == header[1] && entry.pointers[place] == header[2]);
@@ -265,8 +278,46 @@ static void test_entries(void)
     entry_at(&entry, &store->log, 3);
     MUST(entry_decision(&entry).offset == 2 && entry_decision(&entry).outcome == STOCKLOG_COMMITTED);
     MUST(entry_back(&entry, 0, back) == 3 && back[0] == 2 && back[1] == 1 && back[2] == 0);
+    entry_at(&entry, &store->log, 6);
+    MUST(entry.number == 5 && entry.first == 1 && entry.second == 0);
+    entry_at(&entry, &store->log, 10);
+    MUST(entry.number == 9 && entry.first == 1 && entry.second == 5);
+    MUST(outcome_of(&store->log, 10) == STOCKLOG_COMMITTED);
     entry_at(&entry, &store->log, 12);
     MUST(entry.items == 6 && entry_cell(&entry, 1).key == 1 && entry_cell(&entry, 1).version == 3 && !entry_cell(&entry, 1).removed);
+    store_close(store);
+}
+
+/* The commit of a number of its own update, after one or two others; its offset. */
+static uint64_t commit_after(struct store *store, uint32_t number, uint32_t first, uint32_t second)
+{
+    struct request request;
+    uint64_t out[4];
+    request_start(&request, STOCKLOG_UPDATE, number);
+    request_write(&request, 4, number, STOCKLOG_PUT, number);
+    MUST(store_append(store, &request, out) == STOCKLOG_DONE);
+    request_start(&request, STOCKLOG_COMMIT, number);
+    request.first = first;
+    request.second = second;
+    MUST(store_append(store, &request, out) == STOCKLOG_DONE);
+    return out[0] - 1;
+}
+
+/* Commits that name numbers: outcomes, and to whom a decision of them is owed. */
+static void test_names(void)
+{
+    static const uint64_t van = 1 << 3, most = 127, all = 255;
+    struct store *store = new_log("names.log");
+    uint64_t out[4];
+    MUST(outcome_of(&store->log, commit_after(store, 21, 20, 0)) == STOCKLOG_ABORTED); /* 20 commits later */
+    MUST(outcome_of(&store->log, commit_after(store, 20, 0, 0)) == STOCKLOG_COMMITTED);
+    MUST(outcome_of(&store->log, commit_after(store, 22, 20, 0)) == STOCKLOG_COMMITTED);
+    MUST(outcome_of(&store->log, commit_after(store, 23, 20, 22)) == STOCKLOG_COMMITTED);
+    MUST(outcome_of(&store->log, commit_after(store, 24, 20, 21)) == STOCKLOG_ABORTED); /* 21 aborted */
+    MUST(outcome_of(&store->log, commit_after(store, 25, 77, 0)) == STOCKLOG_ABORTED);  /* nobody has 77 */
+    MUST(owed_to(&store->log, &van, 1, out) == STOCKLOG_DONE && out[0] == 1 && out[1] == 1);
+    MUST(owed_to(&store->log, &most, 1, out) == STOCKLOG_DONE && out[0] == 1 && out[1] == 1);
+    MUST(owed_to(&store->log, &all, 1, out) == STOCKLOG_DONE && out[0] == 0);
     store_close(store);
 }
 
@@ -353,6 +404,7 @@ int main(int count, char *words[])
     test_totals();
     test_directory();
     test_entries();
+    test_names();
     test_far();
     test_growth();
     test_shown();

@@ -67,6 +67,8 @@ int refused_log(const struct log *log, uint32_t result, const uint64_t *out)
                        (big)out[3]);
     case STOCKLOG_DIRECTORY:
         return refused(result, "place %llu of the directory breaks its rules", (big)out[3]);
+    case STOCKLOG_BEHIND:
+        return refused(result, "a checkpoint is taken from a replica at the tail %llu", (big)log->tail);
     case STOCKLOG_BAD_REPLICA:
         return refused(result, "a hosted set has at least one object, and only objects of the directory");
     default:
@@ -144,8 +146,11 @@ static int foreign_cell(const struct log *log, const struct request *request)
 static int refused_argument(const struct log *log, const struct request *request)
 {
     static const uint32_t number = STOCKLOG_BAD_REQUEST;
+    char what[128];
     if (foreign_cell(log, request) != 0)
         return ENDS_REFUSED;
+    if (commit_misnames(what, sizeof what, request))
+        return refused(number, "%s", what);
     switch (request->kind) {
     case STOCKLOG_UPDATE:
         return refused(number, "an update has 1 to 12 writes");
