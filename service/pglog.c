@@ -53,10 +53,14 @@ static void quiet(void *told, const char *notice)
     (void)told, (void)notice;
 }
 
-/* An acknowledged append is on the server's disk, also where the server's default is not to wait for that. */
-static int wait_for_disk(PGconn *connection)
+/*
+ * Whatever the server's defaults are: an acknowledged append is on its disk, and each query sees all that was committed before, with no
+ * failure for the sake of another transaction.
+ */
+static int set_up(PGconn *connection)
 {
-    PGresult *result = PQexec(connection, "SELECT set_config('synchronous_commit', 'on', false)"
+    PGresult *result = PQexec(connection, "SELECT set_config('default_transaction_isolation', 'read committed', false);"
+                                          "SELECT set_config('synchronous_commit', 'on', false)"
                                           " WHERE current_setting('synchronous_commit') = 'off'");
     int done = PQresultStatus(result) == PGRES_TUPLES_OK;
     PQclear(result);
@@ -81,7 +85,7 @@ static PGconn *connect_to(const char *where)
         PGPing state = PQpingParams(keywords, values, 1);
         PGconn *connection = PQconnectdbParams(keywords, values, 1);
         PQsetNoticeProcessor(connection, quiet, NULL);
-        if (PQstatus(connection) == CONNECTION_OK && wait_for_disk(connection))
+        if (PQstatus(connection) == CONNECTION_OK && set_up(connection))
             return connection;
         turned_away += state == PQPING_OK;
         if (state == PQPING_NO_ATTEMPT || turned_away == 3 || seconds() >= until)
@@ -214,7 +218,7 @@ static int insert(struct pg_store *pg)
                           formats, 1);
     done = PQresultStatus(result) == PGRES_COMMAND_OK;
     lost = !done && is_lost(pg->connection, result);
-    taken = !done && (has_state(result, "23505") || has_state(result, "40")); /* 40: undone for another's sake */
+    taken = !done && has_state(result, "23505");
     PQclear(result);
     if (!done && !lost && !taken)
         trouble("PostgreSQL does not take the entry: %s", PQerrorMessage(pg->connection));
