@@ -7,12 +7,17 @@
 #include <stdarg.h>
 #include <stdio.h>
 #include <stdlib.h>
+#include <string.h>
 
+/* What a server says may end in empty lines, which are left out. */
 static void say(const char *format, va_list words)
 {
-    fputs("stocklog: ", stderr);
-    vfprintf(stderr, format, words);
-    fputc('\n', stderr);
+    char said[2048];
+    size_t len;
+    vsnprintf(said, sizeof said, format, words);
+    for (len = strlen(said); len > 0 && said[len - 1] == '\n'; len--)
+        said[len - 1] = '\0';
+    fprintf(stderr, "stocklog: %s\n", said);
 }
 
 void usage_error(const char *format, ...)
