@@ -19,6 +19,11 @@ use Rattle.codec.specs.Table.{at}
 abbrev pub objectIn : code.Object → Object
 objectIn b = record { id = b .id; kind = kindOf (b .kind); highest = b .highest; marked = b .marked }
 
+-- room from byte i on for the record of an object whose kind is one of the two
+pub record RecordToPut (d : List ℕ) (i : ℕ) (b : code.Object) : Type 0 where
+  pub inside : i + recordSize ≤ length d
+  pub kind : kindByte (kindOf (b .kind)) ≡ b .kind
+
 -- the seven fields put in one after the other
 pub record-put : (t : List ℕ) (s : ℕ) (b : Object) {t₁ t₂ t₃ t₄ t₅ t₆ t₇ : List ℕ} → s + recordSize ≤ length t
     → t₁ ≡ splice t s (bytesOf 2 markObject)

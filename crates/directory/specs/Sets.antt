@@ -24,6 +24,11 @@ use Rattle.laws.proofs.Records.{ids-ascend}
 use Rattle.laws.proofs.Directory.{every-bit, bit-listed}
 use Rattle.laws.proofs.Directory as laws
 
+-- an object that the directory lists
+pub record ListedObject (d : List ℕ) (id : ℕ) : Type 0 where
+  pub ruled : Ruled d
+  pub known : isObject (shapeOf d) id ≡ true
+
 -- the set without its lowest bit
 abbrev pub othersOf : ℕ → ℕ
 othersOf set = bitAnd set (set - 1)

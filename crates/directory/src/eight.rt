@@ -5,7 +5,7 @@ ghost use lib.ListN.{length};
 ghost use Rattle.lists.specs.Splice.{splice};
 ghost use Rattle.model.specs.Objects.{theObjects};
 ghost use Rattle.model.specs.Directory.{recordSize, kindOf, kindByte, markedByte, recordBytes, directoryOf};
-ghost use Rattle.directory.specs.Eight.{objectIn};
+ghost use Rattle.directory.specs.Eight.{RecordToPut, objectIn};
 use crate::layout::HIGHEST_BEGINS;
 use crate::layout::ID_BEGINS;
 use crate::layout::KIND_BEGINS;
@@ -33,7 +33,7 @@ fn marked_byte(marked: bool) -> u32
 
 // Stores the record of an object, whose kind is one of the two, from byte i on.
 fn put_record(d: &mut [u8], i: usize, b: Object)
-    requires { ⌜ (i + recordSize ≤ length (now d)) × (kindByte (kindOf (b .kind)) ≡ b .kind) ⌝ }
+    requires { ⌜ RecordToPut (now d) i b ⌝ }
     ensures { λ _. ⌜ now (d .exit) ≡ splice (now (d .entry)) i (recordBytes (objectIn b)) ⌝ }
 {
     let marked = marked_byte(b.marked);

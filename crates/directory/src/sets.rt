@@ -7,11 +7,11 @@ ghost use Prim.Native.Nat.{ℕ, _≤_};
 ghost use lib.Dec.{ltb};
 ghost use lib.ListN.{length};
 ghost use Rattle.lists.specs.Sets.{mem, meets, within};
-ghost use Rattle.model.specs.Objects.{isObject, hosted, everything, badSet};
+ghost use Rattle.model.specs.Objects.{hosted, everything, badSet};
 ghost use Rattle.model.specs.Terms.{Listed};
 ghost use Rattle.model.specs.Directory.{shapeOf};
 ghost use Rattle.laws.specs.Ruled.{Ruled, PlaceOf};
-ghost use Rattle.directory.specs.Sets.{Only, United, SetWith, Lowest, othersOf, afterFirst};
+ghost use Rattle.directory.specs.Sets.{ListedObject, Only, United, SetWith, Lowest, othersOf, afterFirst};
 use crate::layout::MOST_RECORDS;
 use codec::names::ObjectId;
 
@@ -38,7 +38,7 @@ pub fn hosts(dir: &[u8], set: u64, id: ObjectId) -> bool
 
 // The set of one object.
 pub fn only(dir: &[u8], id: ObjectId) -> u64
-    requires { ⌜ Ruled (now dir) × (isObject (shapeOf (now dir)) (id .0) ≡ true) ⌝ }
+    requires { ⌜ ListedObject (now dir) (id .0) ⌝ }
     ensures { λ r. ⌜ Only (now (dir .entry)) (id .0) r ⌝ }
 {
     1u64 << crate::places::place_of(dir, id)
@@ -52,7 +52,7 @@ pub fn union(a: u64, b: u64) -> u64
 
 // The set with one object more.
 pub fn with(dir: &[u8], set: u64, id: ObjectId) -> u64
-    requires { ⌜ Ruled (now dir) × (isObject (shapeOf (now dir)) (id .0) ≡ true) ⌝ }
+    requires { ⌜ ListedObject (now dir) (id .0) ⌝ }
     ensures { λ r. ⌜ SetWith (now (dir .entry)) set (id .0) r ⌝ }
 {
     union(set, only(dir, id))

@@ -20,8 +20,8 @@ returns c =
     let m = c₁ .before .before in
     let s = m .before .before in
     let a = s .args in
-    record-put (a .d .now) (a .i) (objectIn (a .b)) (s .pre .0) (c₁ .put16 .ensures) (c₂ .put162 .ensures) (c₃ .put32 .ensures) (c₄ .put322 .ensures)
-    (c₅ .put8 .ensures ∙ ap (λ (x : ℕ). splice (c₄ .put322 .last .0) (a .i + 12) (bytesOf 1 x)) (sym (s .pre .1)))
+    record-put (a .d .now) (a .i) (objectIn (a .b)) (s .pre .inside) (c₁ .put16 .ensures) (c₂ .put162 .ensures) (c₃ .put32 .ensures) (c₄ .put322 .ensures)
+    (c₅ .put8 .ensures ∙ ap (λ (x : ℕ). splice (c₄ .put322 .last .0) (a .i + 12) (bytesOf 1 x)) (sym (s .pre .kind)))
     (c₆ .put82 .ensures ∙ ap (λ (x : ℕ). splice (c₅ .put8 .last .0) (a .i + 13) (bytesOf 1 x)) (m .marked-byte .ensures .0))
     (c₇ .put163 .ensures)
 

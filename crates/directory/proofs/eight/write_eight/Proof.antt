@@ -24,7 +24,7 @@ put-record-requires : tie.Need-put-record-requires Inv-loop μ-loop
 put-record-requires c κs =
     let h = c .before .before in
     let l = h .before .loop in
-    (omega (arith, filled-size (l .inv .1)), kinds-two (l .k) (h .loop-test .taken))
+    record { inside = omega (arith, filled-size (l .inv .1)); kind = kinds-two (l .k) (h .loop-test .taken) }
 
 loop-again : tie.Need-loop-again Inv-loop μ-loop
 loop-again c =

@@ -5,10 +5,10 @@ use Rattle.directory.proofs.sets.only.Statement.{statement}
 use Rattle.directory.proofs.sets.only.Tie as tie
 
 shl-result : tie.Need-shl-result
-shl-result c = let s = c .before .before in place-few (s .pre .0) (c .place-of .ensures) (s .pre .1)
+shl-result c = let s = c .before .before in place-few (s .pre .ruled) (c .place-of .ensures) (s .pre .known)
 
 returns : tie.Need-returns
-returns c = let s = c .before .before in only-one (s .pre .0) (c .place-of .ensures) (s .pre .1)
+returns c = let s = c .before .before in only-one (s .pre .ruled) (c .place-of .ensures) (s .pre .known)
 
 pub only-spec : {M : Type 1} → statement M
 only-spec = tie.close (tie.spec (λ c κs. search needs) shl-result returns)
