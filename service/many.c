@@ -131,11 +131,11 @@ static unsigned run_depots(void)
 {
     unsigned killed = 0;
     while (depots_run()) {
-        unsigned due = (unsigned)((uint64_t)(killed + 1) * many->depot_count * many->appends / (many->kills + 2));
         reap();
-        if (killed < many->kills && done_appends() >= due) {
+        if (killed < many->kills && (uint64_t)done_appends() * many->kills >= (uint64_t)killed * many->depot_count * (many->appends - 1)) {
             usleep(any(&seed, 20000));
             killed += (unsigned)kill_one(any(&seed, process_count()));
+            atomic_store(&many->killed, killed);
         } else {
             usleep(1000);
         }
@@ -195,6 +195,8 @@ int main(int count, char *words[])
     many->appends = (uint32_t)argument(count, words, 3, 300);
     many->kills = (uint32_t)argument(count, words, 4, 100);
     seed = argument(count, words, 5, 1);
+    if (many->appends < 1)
+        usage_error("a depot makes at least one append");
     if (many->depot_count < 1 || many->depot_count > MOST_DEPOTS)
         usage_error("there are 1 to %d depots", MOST_DEPOTS);
     directory_eight(&directory);

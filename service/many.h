@@ -34,6 +34,7 @@ struct van {
 
 struct many {
     uint32_t depot_count, appends, kills;
+    _Atomic uint32_t killed; /* so many processes were killed */
     _Atomic int ended; /* all depots are done, and all that was owed is paid */
     struct depot depots[MOST_DEPOTS];
     struct van vans[VANS];

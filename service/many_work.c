@@ -217,6 +217,15 @@ static void mistake(struct work *work)
     }
 }
 
+/* Waits for kills that are late, so that all of them come while there is work: none is ahead of them by far, and the last append waits for all. */
+static void wait_for_kills(const struct many *many, const struct depot *depot)
+{
+    uint64_t steps = many->appends - 1, done = atomic_load(&depot->done);
+    uint32_t killed;
+    while ((killed = atomic_load(&many->killed)) < many->kills && (done >= steps || done * many->kills > (killed + 4) * steps))
+        usleep(500);
+}
+
 void depot_work(struct many *many, unsigned depot, const char *place, uint64_t seed)
 {
     struct work work = {.store = store_open(place),
@@ -227,6 +236,7 @@ void depot_work(struct many *many, unsigned depot, const char *place, uint64_t s
     replica_open(&work.all, &work.store->log, directory_all(&work.store->log.directory));
     pay(&work); /* what a depot that was killed did not come to */
     while (atomic_load(&work.depot->done) < many->appends) {
+        wait_for_kills(many, work.depot);
         uint32_t what = any(&work.seed, 10);
         if (what < 5)
             update(&work, 0, 1 + any(&work.seed, OBJECTS), 0);
