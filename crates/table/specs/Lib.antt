@@ -1,6 +1,8 @@
 pub mod Rows
+pub mod Items
 pub mod RowLaws
 pub mod Stored
+pub mod ItemRows
 pub mod Order
 pub mod Ranks
 pub mod Ordered
