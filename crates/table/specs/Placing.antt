@@ -5,12 +5,25 @@ use Prim.Native.Nat.{ℕ, _+_, _-_, _*_, _≤_, _<_}
 use lib.ListN.{length, getD, set}
 use Rattle.model.specs.Entries.{Held}
 use Rattle.model.specs.Directory.{mostRecords}
-use Rattle.model.specs.Table.{Cell, cellSize}
+use Rattle.model.specs.Table.{Cell, cellSize, cellsOf}
 use Rattle.laws.specs.Ruled.{Ruled, records}
 use Rattle.laws.proofs.ByPlace.{idOf}
 use Rattle.table.specs.Rows.{rowIn, RowPut}
 use Rattle.table.specs.Runs.{headsIn, mostNew, leastIndex, countAt, used, Standing, standing, secondRun, bothRuns, Counts, LeftAs, CellToPut, CellToAdd}
 use Rattle.table.specs.Indexing.{NewPlace}
+
+-- a slot of the index of a table with so many rows
+pub record SlotOf (count : ℕ) (x : List ℕ) (slot : ℕ) : Type 0 where
+  pub inside : slot < length x
+  pub long : leastIndex ≤ length x
+  pub short : length x < 4294967296
+  pub new : used x ≤ count
+  pub row : getD x slot 0 ≤ used x
+
+-- the row of a cell, plus 1, by what a slot of the index tells; 0 where the second run has none
+pub record RowTold (t : List ℕ) (s : Standing) (o k r : ℕ) : Type 0 where
+  pub found : 1 ≤ r → r ≡ rowIn (cellsOf t (s .count)) o k
+  pub none : r ≡ 0 → rowIn (secondRun t s) o k ≡ 0
 
 -- a place for a hint: behind the tree, and before the counts
 pub record HintAt (x : List ℕ) (r : ℕ) : Type 0 where
