@@ -148,6 +148,6 @@ module _ {key : ℕ → ℕ} {heads most p : ℕ} {slots : List ℕ} (t : Tree k
   pub depth-32 : (k : ℕ) → k < wordEnd → t .depth k ≤ 32
   depth-32 = depth-le t 32 (remainder-bits heads 32 (heads-some (t .formed)) (omega (arith, heads-some (t .formed))))
 
-  -- a search looks at 19 nodes at most where there are 16,384 heads or more
-  pub depth-18 : 16384 ≤ heads → (k : ℕ) → k < wordEnd → t .depth k ≤ 18
-  depth-18 h = depth-le t 18 (remainder-bits heads 18 (heads-some (t .formed)) (omega arith))
+  -- a search looks at 17 nodes at most where there are 65,536 heads or more
+  pub depth-16 : 65536 ≤ heads → (k : ℕ) → k < wordEnd → t .depth k ≤ 16
+  depth-16 h = depth-le t 16 (remainder-bits heads 16 (heads-some (t .formed)) (omega arith))
