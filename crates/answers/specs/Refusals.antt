@@ -6,7 +6,7 @@ use Prim.Native.Nat.{ℕ}
 use Rattle.model.specs.Answers.{Refusal, Answer, done, refused, answer, refuseAt, badDirectory}
 use Rattle.model.specs.Directory.{shapeOf}
 use Rattle.laws.specs.Ruled.{Ruled}
-use Rattle.laws.proofs.Refusals.{not-none, refuseAt-none}
+use Rattle.laws.proofs.Refusals.{refuseAt-none}
 use Rattle.directory.specs.Faults.{faultIn}
 use Rattle.directory.specs.declared.faults.FirstFault.{FirstFault}
 use Rattle.answers.specs.declared.Refusal as code

@@ -1,6 +1,6 @@
 -- The audit's call: on a log that appends made it answers exactly what the run of those appends says, and on no log does it wait.
 use Prim.Native.Nat.{ℕ}
-use mathlib.Core.Path.{refl, ap, sym, _∙_, subst}
+use mathlib.Core.Path.{ap, sym, _∙_, subst}
 use mathlib.Core.List.{List}
 use Rattle.model.specs.Directory.{shapeOf}
 use Rattle.model.specs.Terms.{GoodFrame}

@@ -1,9 +1,9 @@
 -- A log that the check passes has a good frame and good entries alone, so what is shown of those holds of it.
 use mathlib.Core.Path.{_≡_, refl, ap, sym, _∙_}
-use mathlib.Core.Bool.{Bool, true, false, not, _||_}
+use mathlib.Core.Bool.{true, false, not, _||_}
 use mathlib.Core.List.{List, [], _∷_}
 use mathlib.Core.Option.{Option, none, some}
-use Prim.Native.Nat.{ℕ, _%_, _^_, _≤_, _<_}
+use Prim.Native.Nat.{ℕ, _%_, _≤_, _<_}
 use native.Mathlib.Omega.{arith}
 use lib.Dec.{eqb, ltb}
 use borrow.Author.Tests.{ltb-false}
@@ -13,7 +13,7 @@ use Rattle.model.specs.Directory.{shapeOf}
 use Rattle.model.specs.Entries.{Log}
 use Rattle.model.specs.Slot.{mostSlots, logIn}
 use Rattle.model.specs.Rules.{goodAt, lowestBad}
-use Rattle.model.specs.Answers.{Refusal, Answer, done, answer, refuse, refuseAt, firstOf, slots, badDirectory}
+use Rattle.model.specs.Answers.{Refusal, done, answer, refuse, refuseAt, firstOf, slots, badDirectory}
 use Rattle.model.specs.Answers as model
 use Rattle.model.specs.Reading as reading
 use Rattle.model.specs.Histories.{Lent, isRefused}
@@ -22,7 +22,6 @@ use Rattle.laws.proofs.Appends.{frame-few}
 use Rattle.claims.proofs.Handed.{tells-where-for, past-is-bad-for}
 use Rattle.codec.specs.Eight.{badFrame, inLog}
 use Rattle.answers.specs.Refusals.{checkedIn}
-use Rattle.answers.specs.declared.Checked.{Checked}
 use Rattle.answers.specs.declared.Checked.the-variants as checked
 use Rattle.calls.specs.Values.{CheckCall}
 use Rattle.calls.specs.Headers.{CallsTell, CallsFindPast}

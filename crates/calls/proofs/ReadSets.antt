@@ -3,28 +3,27 @@
 use Prim.Native.Nat.{ℕ, _≤_}
 use mathlib.Core.Path.{_≡_, refl, ap, sym, _∙_, subst}
 use mathlib.Core.List.{List, [], _∷_, _++_}
-use mathlib.Core.Option.{Option, some}
+use mathlib.Core.Option.{Option}
 use native.Mathlib.Omega.{arith}
 use lib.ListN.{length}
 use Rattle.model.specs.Directory.{shapeOf}
 use Rattle.model.specs.Entries.{Read, Held}
 use Rattle.model.specs.Table.{versionIn}
-use Rattle.model.specs.Answers.{done, refused}
+use Rattle.model.specs.Answers.{done}
 use Rattle.model.specs.Append as model
 use Rattle.model.specs.Append.{commits}
-use Rattle.model.specs.Histories.{Lent, appendTo, after, grown, Carried, Play, plays, shown, stood}
+use Rattle.model.specs.Histories.{Lent, appendTo, after, grown, Carried, shown}
 use Rattle.model.specs.Terms.{Pointed}
 use Rattle.model.specs.ReadClaims.{FirstAstray, ShownVersion, readOf}
 use Rattle.claims.proofs.Handed.{tells-astray-for, astray-none-for, shown-passes-for}
 use Rattle.codec.specs.Eight.{inLog}
-use Rattle.append.specs.declared.write.Appended.the-variants as appended
 use Rattle.append.specs.Answers.{tailIn}
 use Rattle.answers.specs.Refusals.{checkedIn}
 use Rattle.calls.specs.Values.{AppendCall, seen, Grows, leftBy, Appends, logAfter, scratch, Kept, carry}
 use Rattle.calls.specs.Claims.{lentAt}
 use Rattle.calls.specs.ReadSets.{CallsTellAstray, CallsAstrayNone, Shown, CallsShownPasses}
 use Rattle.calls.proofs.Promises.{append-promise, read-promise}
-use Rattle.calls.proofs.Histories.{lent, requests, history, left-grown, stood-left}
+use Rattle.calls.proofs.Histories.{requests, history, left-grown, stood-left}
 use Rattle.calls.proofs.Appends.{accepted-so, later-so}
 use Rattle.calls.proofs.Behave.{passed, opened-so, plays-so}
 

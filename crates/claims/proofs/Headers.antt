@@ -25,7 +25,7 @@ use Rattle.model.specs.Rules.{goodAt}
 use Rattle.model.specs.Headers.{BackPointer, nothing, at, past, backBy, formatAt, objectAt, farBacks, backsAt, dueFormat, dueBacks}
 use Rattle.model.specs.HeaderClaims.{headerBegins, ReadsAs, HeaderRead, TellsWhere, PastIsBad}
 use Rattle.laws.specs.OldTold.{offsetBack, farTold, nearTold, renamed, OldTold}
-use Rattle.laws.proofs.Sizes.{layout}
+use Rattle.laws.proofs.Sizes.{sized, layout}
 use Rattle.laws.proofs.Slots.{pastNumbers}
 use Rattle.laws.proofs.Headers.{slot-header-at}
 use Rattle.laws.proofs.Appends.{good-bytes}
@@ -40,7 +40,7 @@ abbrev bare : Shape → Shape
 bare sh = record { objects = []; layout = sh .layout; fault = none }
 
 pub header-reads : (sh : Shape) → okLayout sh.layout ≡ true → HeaderRead sh
-header-reads sh k p x qs s i bound small below bytes room = header-read sh.layout (layout (bare sh) k .pointers-are) p x bound small qs below s i bytes room
+header-reads sh k p x qs s i bound small below bytes room = header-read sh.layout (sized sh.layout k .pointers-are) p x bound small qs below s i bytes room
 
 -- ---- in a good entry
 
@@ -103,7 +103,7 @@ count-le sh log p e =
 -- no number of 2 bytes in a header that append writes is above p
 made-small : (sh : Shape) → okLayout sh.layout ≡ true → (log : Log) (p x n : ℕ) → n < sh .layout .pointers → beAt 2 (headerOf sh.layout log p x) (4 + 2 * n) ≤ p
 unfolding headerOf
-made-small sh k log p x n l = header-small sh.layout (layout (bare sh) k .pointers-are) p x (earlier log x p) n l
+made-small sh k log p x n l = header-small sh.layout (sized sh.layout k .pointers-are) p x (earlier log x p) n l
 
 pub past-is-bad : (sh : Shape) → okLayout sh.layout ≡ true → PastIsBad sh
 unfolding notPast

@@ -12,7 +12,7 @@ use lib.Dec.{eqb, ltb}
 use lib.ListN.{length, take}
 use Rattle.lists.specs.Tests.{ands, or-l, or-r, neither, clash}
 use Rattle.model.specs.Objects.{Layout, Shape}
-use Rattle.model.specs.Entries.{Decision, decision, Log}
+use Rattle.model.specs.Entries.{decision, Log}
 use Rattle.model.specs.Slot.{logIn, mostSlots, okShape}
 use Rattle.model.specs.Rules.{okEntry, lowestBad}
 use Rattle.model.specs.Answers.{Answer, done, refused, slots, badFrame}

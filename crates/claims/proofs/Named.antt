@@ -3,8 +3,8 @@
 use Prim.Native.Nat.{ℕ, _+_, _-_}
 use mathlib.Core.Path.{_≡_, ap, ap₂, sym, _∙_}
 use mathlib.Core.Bool.{Bool, true, cond, _&&_, _||_}
-use mathlib.Core.List.{List, [], _++_, append-assoc}
-use mathlib.Core.Option.{none, some}
+use mathlib.Core.List.{List, _++_, append-assoc}
+use mathlib.Core.Option.{some}
 use native.Mathlib.Omega.{arith}
 use lib.ListN.{length, replicate, replicate-append-replicate}
 use Rattle.lists.specs.Bytes.{bytesOf}
@@ -19,7 +19,7 @@ use Rattle.model.specs.Play.{commitsOver, whole, alone, saysCommit, outcome}
 use Rattle.model.specs.Run.{Run, current, commitsNow}
 use Rattle.model.specs.Histories.{inLog, wholeLog}
 use Rattle.claims.specs.Named.{WholeIsRun, fresh, slotBefore, AsBefore}
-use Rattle.laws.proofs.Sizes.{layout}
+use Rattle.laws.proofs.Sizes.{sized}
 use Rattle.claims.proofs.Names.{none-named}
 use Rattle.claims.proofs.Whole.{whole-cells, whole-won}
 use Rattle.claims.proofs.Histories.{run-at}
@@ -58,8 +58,7 @@ slot-before sh k log p e a b =
     let f : List ℕ =
     bytesOf 2 (markOf e) ++ bytesOf 1 (length (headerObjects log p e)) ++ bytesOf 1 (itemCount e) ++ bytesOf 4 (numberOf e)
     ++ zeroTo (headersRoom sh.layout) (joined (headerOf sh.layout log p) (headerObjects log p e)) ++ zeroTo (itemsRoom sh.layout) (itemBytes e) in
-    let bare : Shape = record { objects = []; layout = sh .layout; fault = none } in
-    let n : spareBytes sh.layout + lastSize ≡ sh .layout .slotSize - (itemsBegin sh.layout + itemsRoom sh.layout) = omega (arith, layout bare k .room) in
+    let n : spareBytes sh.layout + lastSize ≡ sh .layout .slotSize - (itemsBegin sh.layout + itemsRoom sh.layout) = omega (arith, sized sh.layout k .room) in
     ap (λ (t : List ℕ). f ++ replicate (spareBytes sh.layout) 0 ++ t) (zeros-last e a b)
     ∙ append-assoc f (replicate (spareBytes sh.layout) 0) (replicate lastSize 0)
     ∙ ap (λ (t : List ℕ). f ++ t) (replicate-append-replicate {A = ℕ} (spareBytes sh.layout) lastSize 0)

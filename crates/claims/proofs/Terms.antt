@@ -15,7 +15,7 @@ use Rattle.lists.specs.Tests.{and-l, and-r, ors, both, neither, clash}
 use Rattle.lists.specs.Sets.{mem, meets, ascending, any-set}
 use Rattle.lists.specs.Members.{any-in, in-any, mem-map, map-mem}
 use Rattle.model.specs.Objects.{Shape}
-use Rattle.model.specs.Entries.{Decision, Write, Entry, plain, numbered, commit, decision, checkpoint, blank, effect, Log, asideUnder, writesOf, commitIn, ifSome, closed, outcomeAfter, decided, isNone, writtenObjects, commitObjects, closesIn}
+use Rattle.model.specs.Entries.{Write, Entry, plain, numbered, commit, decision, checkpoint, blank, effect, Log, asideUnder, writesOf, ifSome, closed, outcomeAfter, decided, isNone, writtenObjects, commitObjects, closesIn}
 use Rattle.model.specs.Slot.{logIn, mostSlots, okShape}
 use Rattle.model.specs.Table.{Cell, cellBefore, inOrder}
 use Rattle.model.specs.Answers.{slots, badFrame}

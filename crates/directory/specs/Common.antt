@@ -11,7 +11,7 @@ use lib.ListN.{length, getD, length-map}
 use lib.Bits.{bitAnd, and-le-r, and-shr, and-mod}
 use borrow.Author.Tests.{eq-eqb, ne-eqb, eqb-true, eqb-false}
 use Rattle.lists.specs.Tests.{and-l, and-r, neither, or-case, both, clash}
-use Rattle.lists.specs.Sets.{all, mem, meets, within, isEmpty, ascending, ascendingSet, mem-set}
+use Rattle.lists.specs.Sets.{mem, meets, within, isEmpty, ascending, ascendingSet, mem-set}
 use Rattle.model.specs.Objects.{Object, hostedBy, hosted}
 use Rattle.model.specs.Directory.{shapeOf, listedIn}
 use Rattle.model.specs.Terms.{Listed}

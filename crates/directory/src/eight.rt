@@ -1,10 +1,10 @@
 // The directory of the eight objects, made from their table.
 ghost use mathlib.Core.Path.{_≡_};
-ghost use Prim.Native.Nat.{_+_, _*_, _≤_, _<_};
+ghost use Prim.Native.Nat.{_*_, _<_};
 ghost use lib.ListN.{length};
 ghost use Rattle.lists.specs.Splice.{splice};
 ghost use Rattle.model.specs.Objects.{theObjects};
-ghost use Rattle.model.specs.Directory.{recordSize, kindOf, kindByte, markedByte, recordBytes, directoryOf};
+ghost use Rattle.model.specs.Directory.{recordSize, markedByte, recordBytes, directoryOf};
 ghost use Rattle.directory.specs.Eight.{RecordToPut, objectIn};
 use crate::layout::HIGHEST_BEGINS;
 use crate::layout::ID_BEGINS;

@@ -1,6 +1,5 @@
 // Whether an object is a map, and its highest key.
 ghost use mathlib.Core.Path.{_≡_};
-ghost use mathlib.Core.Bool.{true};
 ghost use Prim.Native.Nat.{ℕ};
 ghost use lib.Dec.{leb};
 ghost use Rattle.model.specs.Objects.{isMap, isCell};

@@ -1,7 +1,6 @@
 // Sets of objects as 64 bits, by shift and mask: bit k is the object at place k of a directory. A promise that needs no bytes is
 // made for every directory within its rules.
 ghost use mathlib.Core.Path.{_≡_};
-ghost use mathlib.Core.Bool.{true};
 ghost use mathlib.Core.List.{List};
 ghost use Prim.Native.Nat.{ℕ, _≤_};
 ghost use lib.Dec.{ltb};

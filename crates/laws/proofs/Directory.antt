@@ -13,7 +13,7 @@ use lib.Dec.{eqb, ltb}
 use lib.ListN.{length, getD}
 use Rattle.lists.specs.Tests.{clash, or-l, or-r, neither}
 use Rattle.lists.specs.Sets.{mem, isEmpty, ascending, leads, ascends, rest-ascends, first-leads, ascendingSet, ascending-set, mem-append, mem-set, set-same-members}
-use Rattle.model.specs.Objects.{Object, Shape, hostedBy, bitOf, everyBit, everything, badSet, ids}
+use Rattle.model.specs.Objects.{Object, Shape, hostedBy, bitOf, everyBit, everything, badSet}
 use Rattle.laws.proofs.Items.{idsOf}
 
 abbrev byId : Object → Object → Bool

@@ -24,7 +24,7 @@ unfolding cellsOf
 length-cells table count = length-values _ 0 count
 
 pub length-stored : (cells : List Cell) → length (joined cellBytes cells) ≡ cellSize * length cells
-length-stored cells = length-joined cellBytes 24 length-cell cells
+length-stored cells = length-joined cellBytes cellSize length-cell cells
 
 -- the places as the laws of rows have them
 cells-from : (table : List ℕ) (count : ℕ) → cellsOf table count ≡ values (λ i. cellAt table (0 + cellSize * i)) 0 count
@@ -35,7 +35,7 @@ pub cells-back : (table : List ℕ) (cells : List Cell) → all fitsCell cells �
 unfolding tableWith
 cells-back table cells h =
     cells-from (tableWith table cells) (length cells)
-    ∙ values-joined cellBytes cellAt 24 fitsCell length-cell cell-back [] cells (drop (cellSize * length cells) table) 0 refl h
+    ∙ values-joined cellBytes cellAt cellSize fitsCell length-cell cell-back [] cells (drop (cellSize * length cells) table) 0 refl h
 
 -- cells stored twice: the second counts, if they are no fewer
 pub table-again : (t : List ℕ) (cs ds : List Cell) → length cs ≤ length ds → tableWith (tableWith t cs) ds ≡ tableWith t ds
@@ -76,7 +76,7 @@ module _ (table : List ℕ) (bytes : all (λ x. ltb x 256) table ≡ true) where
       ap₂ (λ (a b : List ℕ). a ++ b) e (word n (i + m) h ∙ ap (take n) (sym (drop-drop m i table))) ∙ sym (take-add m n (drop i table))
 
   -- a cell's bytes
-  pub cell-bytes : (i : ℕ) → i + cellSize ≤ length table → cellBytes (cellAt table i) ≡ take 24 (drop i table)
+  pub cell-bytes : (i : ℕ) → i + cellSize ≤ length table → cellBytes (cellAt table i) ≡ take cellSize (drop i table)
   unfolding cellAt cellBytes
   cell-bytes i h =
       next 16 8 i (omega arith) (next 12 4 i (omega arith) (next 8 4 i (omega arith) (next 4 4 i (omega arith) (word 4 i (omega arith)))))
@@ -86,7 +86,7 @@ module _ (table : List ℕ) (bytes : all (λ x. ltb x 256) table ≡ true) where
   table-back count h =
       ap₂ (λ (a b : List ℕ). a ++ b)
       (ap (joined cellBytes) (cells-from table count)
-      ∙ joined-values cellBytes cellAt 24 table 0 count (λ k l. cell-bytes (0 + cellSize * k) (omega arith)))
+      ∙ joined-values cellBytes cellAt cellSize table 0 count (λ k l. cell-bytes (0 + cellSize * k) (omega arith)))
       (ap (λ (n : ℕ). drop (cellSize * n) table) (length-cells table count))
       ∙ take-append-drop (cellSize * count) table
 

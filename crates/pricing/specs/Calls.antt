@@ -5,7 +5,7 @@ use mathlib.Core.Bool.{Bool, true, false, cond, not, _&&_, _||_}
 use mathlib.Core.List.{List, [], _∷_}
 use mathlib.Core.Option.{Option, none, some}
 use native.Mathlib.Omega.{arith}
-use borrow.Author.Tests.{eqb-true, eq-eqb, not-true, not-false}
+use borrow.Author.Tests.{eqb-true, eq-eqb}
 use lib.Dec.{eqb, leb}
 use lib.ListN.{getD}
 use Rattle.lists.specs.Tests.{both}
@@ -23,7 +23,6 @@ use Rattle.laws.proofs.Rising.{rising}
 use Rattle.directory.specs.Maps.{MapGiven}
 use Rattle.answers.specs.Refusals.{refusalIn, checkedIn, directed-refused, ruled-passes}
 use Rattle.answers.specs.declared.Refusal as code
-use Rattle.answers.specs.declared.Refusal.the-variants.{BadReplica, Request}
 use Rattle.answers.specs.declared.Checked.{Checked}
 use Rattle.answers.specs.declared.Checked.the-variants as checked
 use Rattle.records.specs.declared.Record.{Record}
@@ -97,41 +96,23 @@ price-directory d r table o s c x e h =
     (total (shapeOf d) o (pricesIn s) (cellsOf table (r .count)))) (directed-refused d c e x h)
 
 module _ {d : List ℕ} (ruled : Ruled d) (r : Record) (table : List ℕ) (o : ℕ) (s : List ℕ) where
-  price-by : (a b : Bool) → badRecord (shapeOf d) (replicaIn r) table ≡ a → badOrder (shapeOf d) (replicaIn r) o s ≡ b
-      → price (shapeOf d) (replicaIn r) table o s
-      ≡ answer (firstOf (refuse 10 a ∷ refuse 3 b ∷ refuseAt 19 (unpriced (shapeOf d) o (pricesIn s) (cellsOf table (r .count))) ∷ [])) (total (shapeOf d) o (pricesIn s) (cellsOf table (r .count)))
-  unfolding price
-  price-by a b p q = λ j. answer (firstOf (ruled-passes ruled j ∷ refuse 10 (p j) ∷ refuse 3 (q j) ∷ refuseAt 19 (unpriced (shapeOf d) o (pricesIn s) (cellsOf table (r .count))) ∷ []))
-      (total (shapeOf d) o (pricesIn s) (cellsOf table (r .count)))
+  abbrev lacking : Option Refusal
+  lacking = refuseAt 19 (unpriced (shapeOf d) o (pricesIn s) (cellsOf table (r .count)))
 
-  pub price-unfit : badRecord (shapeOf d) (replicaIn r) table ≡ true → price (shapeOf d) (replicaIn r) table o s ≡ refused (refusalIn BadReplica)
-  price-unfit e = price-by true (badOrder (shapeOf d) (replicaIn r) o s) e refl
+  abbrev sum : ℕ
+  sum = total (shapeOf d) o (pricesIn s) (cellsOf table (r .count))
 
-  -- whether it is hosted, a map, and the list bad, as the code found
-  module _ (h m b : Bool) (i : h ≡ mem o (hosted (shapeOf d) (r .hosted))) (f : m ≡ isMap (shapeOf d) o) (g : b ≡ badPrices s) where
-    order-is : badOrder (shapeOf d) (replicaIn r) o s ≡ (not (h && m) || b)
-    order-is = λ j. not (sym i j && sym f j) || sym g j
+  -- By the answers of the code's tests: a bad record, a hosted object, a map, a bad list. One that was not asked stands for itself.
+  module _ {a h m b : Bool} (ea : a ≡ badRecord (shapeOf d) (replicaIn r) table) (eh : h ≡ mem o (hosted (shapeOf d) (r .hosted))) (em : m ≡ isMap (shapeOf d) o) (eb : b ≡ badPrices s) where
+    pub price-tested : answer (firstOf (refuse 10 a ∷ refuse 3 (not (h && m) || b) ∷ lacking ∷ [])) sum ≡ price (shapeOf d) (replicaIn r) table o s
+    unfolding price
+    price-tested = λ j. answer (firstOf (sym (ruled-passes ruled) j ∷ refuse 10 (ea j) ∷ refuse 3 (not (eh j && em j) || eb j) ∷ lacking ∷ [])) sum
 
-    module _ (e : badRecord (shapeOf d) (replicaIn r) table ≡ false) where
-      pub price-unhosted : not h ≡ true → price (shapeOf d) (replicaIn r) table o s ≡ refused (refusalIn Request)
-      price-unhosted n = price-by false true e (order-is ∙ ap (λ (t : Bool). not (t && m) || b) (not-true h n))
-
-      module _ (n : not h ≡ false) where
-        pub price-no-map : not m ≡ true → price (shapeOf d) (replicaIn r) table o s ≡ refused (refusalIn Request)
-        price-no-map p = price-by false true e (order-is ∙ (λ j. not (not-false h n j && not-true m p j) || b))
-
-        module _ (p : not m ≡ false) where
-          tests-are : (x : Bool) → b ≡ x → badOrder (shapeOf d) (replicaIn r) o s ≡ x
-          tests-are x q = order-is ∙ (λ j. not (not-false h n j && not-false m p j) || q j)
-
-          pub price-bad-list : b ≡ true → price (shapeOf d) (replicaIn r) table o s ≡ refused (refusalIn Request)
-          price-bad-list q = price-by false true e (tests-are true q)
-
-          pub price-asked : b ≡ false
-              → price (shapeOf d) (replicaIn r) table o s
-              ≡ answer (refuseAt 19 (unpriced (shapeOf d) o (pricesIn s) (cellsOf table (r .count)))) (total (shapeOf d) o (pricesIn s) (cellsOf table (r .count)))
-          price-asked q = price-by false false e (tests-are false q) ∙ one (refuseAt 19 (unpriced (shapeOf d) o (pricesIn s) (cellsOf table (r .count))))
-            where
-              one : (x : Option Refusal) → answer (firstOf (x ∷ [])) (total (shapeOf d) o (pricesIn s) (cellsOf table (r .count))) ≡ answer x (total (shapeOf d) o (pricesIn s) (cellsOf table (r .count)))
-              one none = refl
-              one (some x) = refl
+  -- all four pass
+  pub price-asked : false ≡ badRecord (shapeOf d) (replicaIn r) table → true ≡ mem o (hosted (shapeOf d) (r .hosted)) → true ≡ isMap (shapeOf d) o → false ≡ badPrices s
+      → answer lacking sum ≡ price (shapeOf d) (replicaIn r) table o s
+  price-asked ea eh em eb = one lacking ∙ price-tested ea eh em eb
+    where
+      one : (x : Option Refusal) → answer x sum ≡ answer (firstOf (x ∷ [])) sum
+      one none = refl
+      one (some x) = refl

@@ -65,10 +65,21 @@ SteppedSo s highest w c (NoPrice k) = Lacks s highest c k
 pub record Stepped (s : List ℕ) (highest : ℕ) (w : Tally) (c : Cell) (x : Next) : Type 0 where
   pub so : SteppedSo s highest w c x
 
+-- the price of key x stands at place k
+abbrev pub isThere : List ℕ → ℕ → ℕ → Bool
+isThere s k x = ltb k (priceCount s) && eqb (keyOf s k) x
+
+-- the row is a line, and its price stands at place k
+pub record LineAt (s : List ℕ) (highest : ℕ) (c : Cell) (k : ℕ) : Type 0 where
+  pub line : isSummed highest c ≡ true
+  pub sought : Sought s (c .key) k
+  pub place : k < priceCount s
+  pub found : priceOf (pricesIn s) c.key ≡ some (priceAt s (priceSize * k))
+
 module _ (highest : ℕ) {s : List ℕ} {w : Tally} {c : Cell} (given : StepGiven s w c) where
   -- a row that is no line; t is the test's result
-  pub step-past : (t : Bool) → t ≡ isSummed highest c → not t ≡ true → Stepped s highest w c (On w)
-  step-past t e n =
+  pub step-past : {t : Bool} → t ≡ isSummed highest c → not t ≡ true → Stepped s highest w c (On w)
+  step-past {t} e n =
       let out : isSummed highest c ≡ false = sym e ∙ not-true t n in
       record {
         so = record {
@@ -79,38 +90,39 @@ module _ (highest : ℕ) {s : List ℕ} {w : Tally} {c : Cell} (given : StepGive
         };
       }
 
-  -- a line; u is whether its price stands at place k
-  module _ (t : Bool) (e : t ≡ isSummed highest c) (n : not t ≡ false) {k : ℕ} (sought : Sought s (c .key) k) (u : Bool) (told : u ≡ (ltb k (priceCount s) && eqb (keyOf s k) (c .key))) where
-    is-line : isSummed highest c ≡ true
-    is-line = sym e ∙ not-false t n
+  -- a line without a price; u is whether its price stands at place k
+  pub step-lacks : {t : Bool} → t ≡ isSummed highest c → not t ≡ false → {k : ℕ} → Sought s (c .key) k → {u : Bool} → u ≡ isThere s k (c .key) → not u ≡ true → Stepped s highest w c (NoPrice (c .key))
+  step-lacks {t} e n sought {u} told m =
+      record { so = record { lacks = both (sym e ∙ not-false t n) (ap isNone (price-missing s (given .good) sought (sym told ∙ not-true u m))); key = refl } }
 
-    pub step-lacks : not u ≡ true → Stepped s highest w c (NoPrice (c .key))
-    step-lacks m = record { so = record { lacks = both is-line (ap isNone (price-missing s (given .good) sought (sym told ∙ not-true u m))); key = refl } }
+  -- a line with its price
+  pub line-at : {t : Bool} → t ≡ isSummed highest c → not t ≡ false → {k : ℕ} → Sought s (c .key) k → {u : Bool} → u ≡ isThere s k (c .key) → not u ≡ false → LineAt s highest c k
+  line-at {t} e n {k} sought {u} told m =
+      let there : isThere s k (c .key) ≡ true = sym told ∙ not-false u m in
+      record {
+        line = sym e ∙ not-false t n;
+        sought = sought;
+        place = ltb-true k (priceCount s) (and-l (ltb k (priceCount s)) (eqb (keyOf s k) (c .key)) there);
+        found = price-found s (given .good) sought there;
+      }
 
-    module _ (m : not u ≡ false) where
-      pub line-place : k < priceCount s
-      line-place = ltb-true k (priceCount s) (and-l (ltb k (priceCount s)) (eqb (keyOf s k) (c .key)) (sym told ∙ not-false u m))
+  pub line-range : {k : ℕ} → LineAt s highest c k → {p : code.Price} → priceIn p ≡ priceAt s (priceSize * k) → InRange p
+  line-range l = in-range s (given .good) (l .place)
 
-      found : priceOf (pricesIn s) c.key ≡ some (priceAt s (priceSize * k))
-      found = price-found s (given .good) sought (sym told ∙ not-false u m)
-
-      pub line-range : {p : code.Price} → priceIn p ≡ priceAt s (priceSize * k) → InRange p
-      line-range = in-range s (given .good) line-place
-
-      pub step-on : {p : code.Price} → priceIn p ≡ priceAt s (priceSize * k) → (x : ℕ) → x ≡ lineOf c.value (priceIn p) → (sum : Sum)
-          → sumOf sum ≡ sumOf (record { high = w .high; low = w .low }) + x → sum .high ≤ w .high + 1
-          → Stepped s highest w c (On (record { place = k; high = sum .high; low = sum .low }))
-      step-on {p} i x line sum f h =
-          let whole : lineBy highest (pricesIn s) c ≡ x =
-          (λ j. cond (is-line j) (ifSome (found j) 0 (lineOf c.value)) 0) ∙ ap (lineOf c.value) (sym i) ∙ sym line in
-          record {
-            so = record {
-              priced = λ j. is-line j && isNone (found j);
-              sum = omega (arith, f, whole);
-              carry = h;
-              under = record { few = sought .few; under = sought .under };
-            };
-          }
+  pub step-on : {k : ℕ} → LineAt s highest c k → {p : code.Price} → priceIn p ≡ priceAt s (priceSize * k) → {x : ℕ} → x ≡ lineOf c.value (priceIn p) → {sum : Sum}
+      → sumOf sum ≡ sumOf (record { high = w .high; low = w .low }) + x → sum .high ≤ w .high + 1
+      → Stepped s highest w c (On (record { place = k; high = sum .high; low = sum .low }))
+  step-on l i {x} line f h =
+      let whole : lineBy highest (pricesIn s) c ≡ x =
+      (λ j. cond (l .line j) (ifSome (l .found j) 0 (lineOf c.value)) 0) ∙ ap (lineOf c.value) (sym i) ∙ sym line in
+      record {
+        so = record {
+          priced = λ j. l .line j && isNone (l .found j);
+          sum = omega (arith, f, whole);
+          carry = h;
+          under = record { few = l .sought .few; under = l .sought .under };
+        };
+      }
 
 -- ---- the walk
 

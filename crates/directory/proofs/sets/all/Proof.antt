@@ -1,7 +1,6 @@
 -- One less than the power of the number of records; of 64 records all bits.
 use native.Mathlib.Omega.{arith}
 use lib.Pow.{pow-pos}
-use Prim.Native.Nat.{_*_, _%_, _^_, _≤_}
 use Rattle.directory.specs.Sets.{one-bit, all-full, all-power}
 use borrow.Author.Needs.{needs}
 use Rattle.directory.proofs.sets.all.Statement.{statement}

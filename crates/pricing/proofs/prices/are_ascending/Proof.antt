@@ -18,9 +18,6 @@ Inv-loop prices n k₀ k = Seeking (unordered priceBefore (λ j. priceAt prices 
 abbrev μ-loop : tie.MeasureT-loop
 μ-loop prices n k₀ k = n - k
 
-loop-holds : tie.Need-loop-holds Inv-loop μ-loop
-loop-holds c = seeking-none _ _
-
 returns : tie.Need-returns Inv-loop μ-loop
 unfolding pricesIn
 returns c =
@@ -30,11 +27,6 @@ returns c =
     let s = n .before .before .args .prices .now in
     sym (ap (λ (m : ℕ). ascending priceBefore (values (λ j. priceAt s (priceSize * j)) 0 m)) (sym (n .count .ensures))
     ∙ ascend-not priceBefore (λ j. priceAt s (priceSize * j)) (n .count .result) (l .loop .inv) (omega arith) (ap not (sym (b .is-before-next .ensures)) ∙ c .if1 .taken))
-
-loop-again : tie.Need-loop-again Inv-loop μ-loop
-loop-again c =
-    let b = c .before in
-    seeking-more (b .before .before .loop .inv) (omega arith) (ap not (sym (b .is-before-next .ensures)) ∙ c .if1 .left)
 
 returns-2 : tie.Need-returns-2 Inv-loop μ-loop
 unfolding pricesIn
@@ -52,11 +44,11 @@ are-ascending-spec =
     Inv-loop
     μ-loop
     (λ c κs. search needs)
-    loop-holds
+    (λ c. seeking-none _ _)
     (λ c. omega arith)
     (λ c κs. omega arith)
     returns
     (λ c. omega arith)
     (λ c. omega arith)
-    loop-again
+    (λ c. let b = c .before in seeking-more (b .before .before .loop .inv) (omega arith) (ap not (sym (b .is-before-next .ensures)) ∙ c .if1 .left))
     returns-2)

@@ -18,9 +18,6 @@ Inv-loop prices n k₀ k = Seeking (failing (okPrice prices) (λ j. priceSize * 
 abbrev μ-loop : tie.MeasureT-loop
 μ-loop prices n k₀ k = n - k
 
-loop-holds : tie.Need-loop-holds Inv-loop μ-loop
-loop-holds c = seeking-none _ _
-
 returns : tie.Need-returns Inv-loop μ-loop
 returns c =
     let r = c .before in
@@ -29,11 +26,6 @@ returns c =
     let s = n .before .before .args .prices .now in
     sym (ap (λ (m : ℕ). all (okPrice s) (values (λ j. priceSize * j) 0 m)) (sym (n .count .ensures))
     ∙ every-not (okPrice s) (λ j. priceSize * j) (l .loop .inv) (r .before .loop-test .taken) (ap not (sym (r .is-record .ensures)) ∙ c .if1 .taken))
-
-loop-again : tie.Need-loop-again Inv-loop μ-loop
-loop-again c =
-    let r = c .before in
-    seeking-more (r .before .before .loop .inv) (r .before .loop-test .taken) (ap not (sym (r .is-record .ensures)) ∙ c .if1 .left)
 
 returns-2 : tie.Need-returns-2 Inv-loop μ-loop
 returns-2 c =
@@ -50,11 +42,11 @@ are-records-spec =
     Inv-loop
     μ-loop
     (λ c κs. search needs)
-    loop-holds
+    (λ c. seeking-none _ _)
     (λ c. omega arith)
     (λ c κs. omega arith)
     returns
     (λ c. omega arith)
     (λ c. omega arith)
-    loop-again
+    (λ c. let r = c .before in seeking-more (r .before .before .loop .inv) (r .before .loop-test .taken) (ap not (sym (r .is-record .ensures)) ∙ c .if1 .left))
     returns-2)
