@@ -18,7 +18,7 @@ use Rattle.table.specs.Rows.{further, rowIn}
 use Rattle.table.specs.Runs.{merged, apart, Runs}
 use Rattle.table.specs.Ordered.{first-before, row-found}
 use Rattle.table.specs.Inserted.{none-first}
-use Rattle.table.specs.Merged.{none-merged, merged-snoc}
+use Rattle.table.specs.Merged.{merged-snoc}
 
 -- ---- a cell written into rows
 
