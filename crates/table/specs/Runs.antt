@@ -75,6 +75,16 @@ mostNew x = length x / 8
 abbrev pub leastIndex : ℕ
 leastIndex = 4 * (mostRecords + 1)
 
+-- how many numbers the index of a call has, by how long the log is
+abbrev pub shortIndex : ℕ
+shortIndex = 8192
+
+abbrev pub midIndex : ℕ
+midIndex = 65536
+
+abbrev pub longIndex : ℕ
+longIndex = 131072
+
 -- where the count of the object at place k stands
 abbrev pub countAt : List ℕ → ℕ → ℕ
 countAt x k = length x - (mostRecords + 1) + k

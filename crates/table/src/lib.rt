@@ -1,4 +1,4 @@
-// A replica's table: rows of 24 bytes that ascend by object, then key. While a call plays, new rows are kept in a run of their own.
+// A replica's table: rows that ascend by object, then key. While a call plays, new rows are kept in a run of their own.
 pub mod moves;
 pub mod order;
 pub mod radix;
