@@ -78,9 +78,14 @@ impl<'a> Case<'a> {
         for _ in 0..6 {
             self.probe()?;
         }
-        Ok(())
+        self.everything()
     }
 }
+
+/// Tables of more rows than these are made for few histories only: each takes as long as many others.
+const MANY_ROWS: u64 = 2_000;
+/// And of more than these for none.
+const MOST_ROWS: u64 = 30_000;
 
 /// Few slots mostly, so that logs are full soon.
 fn slots(random: &mut Random) -> usize {
@@ -304,6 +309,39 @@ impl Case<'_> {
                 table,
             });
         }
+        Ok(())
+    }
+
+    /// All objects played from offset 0 on to some stop, and audited, on a table with a row for each cell of the directory, or one more or
+    /// less: where all cells have room, a library may work in another way.
+    fn everything(&mut self) -> Result<(), Difference> {
+        let objects = self.directory().objects().iter();
+        let cells: u64 = objects
+            .map(|object| u64::from(object.highest_key) + 1)
+            .sum();
+        if cells > MOST_ROWS || cells > MANY_ROWS && !self.random.percent(3) {
+            return Ok(());
+        }
+        let rows = (cells + self.random.below(3)).saturating_sub(1) as usize;
+        let tail = self.tail();
+        let stop = match self.random.percent(50) {
+            true => tail,
+            false => self.random.below(tail + 1),
+        };
+        let mut play = Call::Play {
+            record: Record {
+                hosted: self.directory().everything(),
+                position: 0,
+                count: 0,
+            },
+            table: vec![0xAA; rows * CELL],
+            stop,
+        };
+        self.pair.call(&mut self.log, tail, &mut play)?;
+        let mut audit = Call::Audit {
+            scratch: vec![0xD5; rows * CELL],
+        };
+        self.pair.call(&mut self.log, tail, &mut audit)?;
         Ok(())
     }
 
