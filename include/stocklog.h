@@ -75,9 +75,10 @@
  * Only a replica that hosts every object of the directory decides such a record by itself. What has committed it works out from the log,
  * from offset 0 on, whatever its own position and cells are and whatever decision records say. Any other replica of an object that the
  * transaction writes takes the outcome from the decision record, or waits for one, also where it hosts all objects read.
- * What that costs: an audit, and a play of a replica of every object, that meets a commit record with names plays the log from offset 0 once
- * more, over a table of its own with 32,768 rows (12,288 for a log of at most 1,024 entries, which has no more cells): about twice the time.
- * From the entry on that writes one cell more than that, each read is looked for down the log, which is slow: a factor of the log's length.
+ * What that costs: an audit, and a play of a replica of every object, that meets a commit record with names works the log out from offset 0 once
+ * more: about one and a half times the time. Where the directory has more than 24,511 cells, it does so over a table of its own with 24,576 rows
+ * (12,288 for a log of at most 1,024 entries, which has no more cells), and takes about three times as long; from the entry on that writes one
+ * cell more than that, each read is looked for down the log, which is slow: a factor of the log's length.
  * Logs without names, and other replicas, pay nothing for it.
  *
  * A REPLICA is a record of three numbers, which the caller keeps and hands over: the hosted set (64 bits: bit k for the object at
@@ -186,14 +187,13 @@ static const uint8_t stocklog_eight[128] = {
 /*
  * Bytes of stack that are enough for any call, from its entry on, on x86-64. No call recurses, and its arrays have fixed
  * lengths, so its use does not depend on the log. For one call these are enough:
- *   3,850,000  stocklog_audit
- *   3,530,000  stocklog_play
+ *   3,060,000  stocklog_audit, stocklog_play
  *       1,000  stocklog_open_fresh, stocklog_read_cell, stocklog_price
  *   2,530,000  each other
  * tools/stack adds up what is used from the archive's machine code (frames along the calls, and 16 KiB for memset and memcpy),
  * and fails where it is more than is stated here, or where a figure here is over 5 % and over 1,000 bytes more.
  */
-enum { STOCKLOG_STACK = 4194304 };
+enum { STOCKLOG_STACK = 3145728 };
 
 /* ---- Reading a log. Nothing lent is changed, but for out and the list of stocklog_stream_list. ---- */
 
