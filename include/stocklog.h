@@ -76,7 +76,7 @@
  * from offset 0 on, whatever its own position and cells are and whatever decision records say. Any other replica of an object that the
  * transaction writes takes the outcome from the decision record, or waits for one, also where it hosts all objects read.
  * What that costs: an audit, and a play of a replica of every object, that meets a commit record with names works the log out from offset 0 once
- * more: about one and a half times the time. Where the directory has more than 24,511 cells, it does so over a table of its own with 24,576 rows
+ * more: one and a half times to twice the time. Where the directory has more than 24,511 cells, it does so over a table of its own with 24,576 rows
  * (12,288 for a log of at most 1,024 entries, which has no more cells), and takes about three times as long; from the entry on that writes one
  * cell more than that, each read is looked for down the log, which is slow: a factor of the log's length.
  * Logs without names, and other replicas, pay nothing for it.
