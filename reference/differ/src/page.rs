@@ -92,10 +92,10 @@ of the small objects, and checkpoints of them in turn, each of all its cells.\n"
 /// The tables of plays on logs whose commits name numbers, each with its name.
 pub fn naming(tables: &[(&str, String)]) -> String {
     let mut text = "\
-Plays of everything on logs as above, of which every third commit record names one or two numbers that have committed. A play from\n\
-offset 0 knows which numbers have committed. One that goes on from a later entry first plays the log whole, up to the last commit record\n\
-that names a number, to find out; it is measured beside the play from offset 0 of the same log, and should take at most 2.2 times as\n\
-long.\n"
+Plays of everything on logs as above, of which every third commit record names one or two numbers that have committed. The plain Rust\n\
+notes which numbers have committed as it plays from offset 0; to go on from a later entry it first plays the log from offset 0. The proved\n\
+library works that out before it plays, wherever it begins. A play that goes on is measured beside the play from offset 0 of the same log,\n\
+and should take at most 2.2 times as long.\n"
         .to_string();
     for (name, table) in tables {
         text += &format!("\n{name}:\n\n{table}");
