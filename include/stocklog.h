@@ -188,6 +188,7 @@ static const uint8_t stocklog_eight[128] = {
  * Bytes of stack that are enough for any call, from its entry on, on x86-64. No call recurses, and its arrays have fixed
  * lengths, so its use does not depend on the log. For one call these are enough:
  *   3,060,000  stocklog_audit, stocklog_play
+ *   2,590,000  stocklog_owed
  *       1,000  stocklog_open_fresh, stocklog_read_cell, stocklog_price
  *   2,530,000  each other
  * tools/stack adds up what is used from the archive's machine code (frames along the calls, and 16 KiB for memset and memcpy),
