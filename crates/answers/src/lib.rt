@@ -1,4 +1,5 @@
 // The answers other than done (13.3), as one enum that every call answers with.
+#![tactic(auto)]
 ghost use Rattle.std.specs.Prelude.{◌≡◌};
 ghost use Rattle.model.specs.Answers.{answer, bad_directory};
 ghost use Rattle.model.specs.Directory.{shape_of};
@@ -7,7 +8,7 @@ ghost use Rattle.answers.specs.Refusals.{refusal_in, checked_in, told_in};
 use codec::names::Offset;
 use directory::faults::FirstFault;
 
-#[derive(Drop)]
+#[derive(Clone, Copy)]
 pub enum Refusal {
     Frame,
     BadEntry(Offset),
@@ -30,7 +31,7 @@ pub enum Refusal {
 }
 
 // Done, or refused.
-#[derive(Drop)]
+#[derive(Clone, Copy)]
 pub enum Checked {
     Done,
     Refused(Refusal),
@@ -63,7 +64,7 @@ pub fn number_of(r: Refusal) -> u32
 }
 
 // What a refusal tells beside its number, or that it tells nothing.
-#[derive(Drop)]
+#[derive(Clone, Copy)]
 pub enum Told {
     Number(u64),
     Nothing,

@@ -1,6 +1,6 @@
 // The constant table of the eight objects, read by place.
 // id, kind (1 map, 2 register), highest key, mark (1 or 0)
-#[derive(Drop)]
+#[derive(Clone, Copy)]
 pub struct Object {
     pub id: u32,
     pub kind: u8,

@@ -103,7 +103,7 @@ fn judged(dir: &[u8]) -> usize
 }
 
 // No place at fault, or the first.
-#[derive(Drop)]
+#[derive(Clone, Copy)]
 pub enum FirstFault {
     None,
     At(u64),

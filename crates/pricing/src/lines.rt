@@ -26,7 +26,7 @@ pub fn line(q: u32, p: Price) -> u64
     (full * left + HALF) / WHOLE
 }
 
-#[derive(Drop)]
+#[derive(Clone, Copy)]
 pub struct Sum {
     pub high: u64,
     pub low: u64,

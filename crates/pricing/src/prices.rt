@@ -10,7 +10,7 @@ use crate::layout::{
     PRICE_SIZE, ZEROS_BEGIN,
 };
 
-#[derive(Drop)]
+#[derive(Clone, Copy)]
 pub struct Price {
     pub key: u32,
     pub cents: u32,

@@ -11,14 +11,14 @@ use answers::Refusal;
 use table::rows::Row;
 
 // The place among the prices, and the sum so far.
-#[derive(Drop)]
+#[derive(Clone, Copy)]
 pub struct Tally {
     pub place: usize,
     pub high: u64,
     pub low: u64,
 }
 
-#[derive(Drop)]
+#[derive(Clone, Copy)]
 pub enum Next {
     On(Tally),
     NoPrice(u32),
@@ -59,7 +59,7 @@ fn step(r: Row, highest: u32, prices: &[u8], w: Tally) -> Next
 }
 
 // A total in its two parts, or a refusal.
-#[derive(Drop)]
+#[derive(Clone, Copy)]
 pub enum Priced {
     Total(u64, u64),
     Refused(Refusal),

@@ -6,7 +6,7 @@ ghost use Rattle.stocklog.specs.Numbers.{numbers_in, more_in};
 
 use answers::{Refusal, Told};
 
-#[derive(Drop)]
+#[derive(Clone, Copy)]
 pub struct Numbers {
     pub number: u32,
     pub first: u64,
@@ -16,7 +16,7 @@ pub struct Numbers {
 }
 
 // What the entry call says in the fifth place and after it.
-#[derive(Drop)]
+#[derive(Clone, Copy)]
 pub struct More {
     pub items: u64,
     pub first: u64,

@@ -1,6 +1,7 @@
 // Makes appends on the logs of standard input and prints their answers, and the log that they left. The input is a list of
 // cases: tail, length of the log, the log, number of requests, the requests. It and the expected output come from the second
 // implementation.
+#![tactic(auto)]
 mod requests;
 
 // The directory of the eight objects has so many bytes.

@@ -4,7 +4,7 @@ use codec::names::{Names, ObjectId, Offset, TxNumber};
 use records::Record;
 
 // The place after a request, and the tail that it left.
-#[derive(Drop)]
+#[derive(Clone, Copy)]
 pub struct Left {
     pub at: usize,
     pub tail: usize,

@@ -1,5 +1,5 @@
 // What a case tells beside its directory and its log.
-#[derive(Drop)]
+#[derive(Clone, Copy)]
 pub struct Told {
     pub tail: u32,
     pub hosted: u64,

@@ -1,6 +1,7 @@
 // Runs the forms that carry their state, a stream reader and a record moved on in place, on the logs of standard input and prints
 // what they answer. The input comes from the second implementation, and so does the expected output, by its stream list and its
 // play by value.
+#![tactic(auto)]
 mod runs;
 mod streams;
 

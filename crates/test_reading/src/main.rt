@@ -1,5 +1,6 @@
 // Runs the reading calls on the logs of standard input and prints their answers. The input is a list of cases: tail and
 // length of the log, 4 bytes each, then the log. It and the expected output come from the second implementation.
+#![tactic(auto)]
 mod calls;
 mod streams;
 

@@ -1,6 +1,7 @@
 // Opens replicas fresh and at checkpoints, plays and reads them, and audits, on the logs of standard input, and prints the answers,
 // and the tables that they left. The input is a list of cases: log, table, record, requests. It and the expected output come
 // from the second implementation.
+#![tactic(auto)]
 mod requests;
 
 use records::Record;

@@ -7,7 +7,7 @@ use replica::opening::Opened;
 use replica::playing::Left;
 
 // The place after a request, and the record that it left.
-#[derive(Drop)]
+#[derive(Clone, Copy)]
 pub struct Stand {
     pub at: usize,
     pub record: Record,
