@@ -4,8 +4,8 @@ use Rattle.answers.proofs.directed.Goals as goal
 
 pub returns-in-None : goal.returns-in-None
 returns-in-None c =
-    fault-told c.args.dir.now c.fault-f.ensures _ c.enum_told-1.given.1
+    fault-told c.args.dir.now c.fault-f.ensures _ c.in-None.is
 
 pub returns-in-At : goal.returns-in-At
 returns-in-At c =
-    fault-told c.args.dir.now c.fault-f.ensures _ c.f-1.given.1
+    fault-told c.args.dir.now c.fault-f.ensures _ c.in-At.is

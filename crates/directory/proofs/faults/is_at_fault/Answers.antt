@@ -22,10 +22,10 @@ pub returns-then-not-is_record : goal.returns-then-not-is_record
 returns-then-not-is_record c =
     let a = c.args in
     sym (place-judged a.dir.now a.k false false false _ (lt-leb most_records a.k c.if-k-ge-MOST_RECORDS.false) (le-ltb (length a.dir.now) (record_size * a.k + record_size) c.if-dir-k.false)
-    (sym c.is_record.ensures ∙ not-true _ c.if-not-is_record.true) refl)
+    (sym c.is_record.ensures ∙ not-true _ c.if-not-is_record.true-raw) refl)
 
 pub returns : goal.returns
 returns c =
     let a = c.args in
     sym (place-judged a.dir.now a.k false false true c.is_above.result (lt-leb most_records a.k c.if-k-ge-MOST_RECORDS.false) (le-ltb (length a.dir.now) (record_size * a.k + record_size) c.if-dir-k.false)
-    (sym c.is_record.ensures ∙ not-false _ c.if-not-is_record.false) (sym c.is_above.ensures))
+    (sym c.is_record.ensures ∙ not-false _ c.if-not-is_record.false-raw) (sym c.is_above.ensures))

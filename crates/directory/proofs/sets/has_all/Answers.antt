@@ -3,4 +3,4 @@ use Rattle.directory.specs.Common.{hosted-within}
 use Rattle.directory.proofs.sets.has_all.Goals as goal
 
 pub returns : goal.returns
-returns c = hosted-within r c.args.a c.args.b l
+returns c d r l = hosted-within r c.args.a c.args.b l

@@ -3,4 +3,4 @@ use Rattle.directory.specs.Common.{hosted-meet}
 use Rattle.directory.proofs.sets.share.Goals as goal
 
 pub returns : goal.returns
-returns c = hosted-meet r c.args.a c.args.b l
+returns c d r l = hosted-meet r c.args.a c.args.b l

@@ -14,7 +14,7 @@ unfolding prices_in
 returns-then-not-is_before_next c =
     let s = c.args.prices.now in
     sym (ap (λ (m : ℕ). ascending price_before (values (λ j. price_at s (price_size * j)) 0 m)) (sym c.count-n.ensures)
-    ∙ ascend-not price_before (λ j. price_at s (price_size * j)) c.count-n.result c.loop-k.invariant (omega arith) (ap not (sym c.is_before_next.ensures) ∙ c.if-not-is_before_next.true))
+    ∙ ascend-not price_before (λ j. price_at s (price_size * j)) c.count-n.result c.loop-k.invariant (omega arith) (ap not (sym c.is_before_next.ensures) ∙ c.if-not-is_before_next.true-raw))
 
 pub returns : goal.returns
 unfolding prices_in
@@ -27,4 +27,4 @@ pub loop-k-init : goal.loop-k-init
 loop-k-init c = seeking-none _ _
 
 pub loop-k-preserved : goal.loop-k-preserved
-loop-k-preserved c = seeking-more c.loop-k.invariant (omega arith) (ap not (sym c.is_before_next.ensures) ∙ c.if-not-is_before_next.false)
+loop-k-preserved c = seeking-more c.loop-k.invariant (omega arith) (ap not (sym c.is_before_next.ensures) ∙ c.if-not-is_before_next.false-raw)

@@ -14,9 +14,9 @@ returns-then-prices-ne0 c = rw (ne_eqb (length c.args.prices.now % price_size) 0
 pub returns-then-not-are_records : goal.returns-then-not-are_records
 unfolding bad_prices
 returns-then-not-are_records c =
-    rw (eq-eqb (length c.args.prices.now % price_size) 0 c.if-prices-ne0.false, sym c.are_records.ensures ∙ not-true _ c.if-not-are_records.true)
+    rw (eq-eqb (length c.args.prices.now % price_size) 0 c.if-prices-ne0.false, sym c.are_records.ensures ∙ not-true _ c.if-not-are_records.true-raw)
 
 pub returns : goal.returns
 unfolding bad_prices
 returns c =
-    rw (eq-eqb (length c.args.prices.now % price_size) 0 c.if-prices-ne0.false, sym c.are_records.ensures ∙ not-false _ c.if-not-are_records.false) (ap not c.are_ascending.ensures)
+    rw (eq-eqb (length c.args.prices.now % price_size) 0 c.if-prices-ne0.false, sym c.are_records.ensures ∙ not-false _ c.if-not-are_records.false-raw) (ap not c.are_ascending.ensures)

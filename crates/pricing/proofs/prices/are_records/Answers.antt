@@ -12,7 +12,7 @@ pub returns-then-not-is_record : goal.returns-then-not-is_record
 returns-then-not-is_record c =
     let s = c.args.prices.now in
     sym (ap (λ (m : ℕ). all (ok_price s) (values (λ j. price_size * j) 0 m)) (sym c.count-n.ensures)
-    ∙ every-not (ok_price s) (λ j. price_size * j) c.loop-k.invariant c.loop-k-test.true (ap not (sym c.is_record.ensures) ∙ c.if-not-is_record.true))
+    ∙ every-not (ok_price s) (λ j. price_size * j) c.loop-k.invariant c.loop-k-test.true (ap not (sym c.is_record.ensures) ∙ c.if-not-is_record.true-raw))
 
 pub returns : goal.returns
 returns c =
@@ -24,4 +24,4 @@ pub loop-k-init : goal.loop-k-init
 loop-k-init c = seeking-none _ _
 
 pub loop-k-preserved : goal.loop-k-preserved
-loop-k-preserved c = seeking-more c.loop-k.invariant c.loop-k-test.true (ap not (sym c.is_record.ensures) ∙ c.if-not-is_record.false)
+loop-k-preserved c = seeking-more c.loop-k.invariant c.loop-k-test.true (ap not (sym c.is_record.ensures) ∙ c.if-not-is_record.false-raw)

@@ -22,13 +22,13 @@ pub returns-in-NoPrice : goal.returns-in-NoPrice
 returns-in-NoPrice c =
     let a = c.args in
     walking-lacks a.table.now a.first a.n a.highest a.prices.now c.loop-i.invariant c.requires c.row_at-r.ensures c.loop-i-test.true
-    (subst (SteppedSo a.prices.now a.highest c.loop-i.w (cell_in c.row_at-r.result)) c.s-1.given.1 c.step-s.ensures.so)
+    (subst (SteppedSo a.prices.now a.highest c.loop-i.w (cell_in c.row_at-r.result)) c.in-NoPrice.is c.step-s.ensures.so)
 
 pub loop-i-preserved : goal.loop-i-preserved
 loop-i-preserved c =
     let a = c.args in
     walking_on a.table.now a.first a.n a.highest a.prices.now c.loop-i.invariant c.requires c.row_at-r.ensures c.loop-i-test.true
-    (subst (SteppedSo a.prices.now a.highest c.loop-i.w (cell_in c.row_at-r.result)) c.s-in-On-1.given.1 c.step-s.ensures.so)
+    (subst (SteppedSo a.prices.now a.highest c.loop-i.w (cell_in c.row_at-r.result)) c.in-On.is c.step-s.ensures.so)
 
 pub returns : goal.returns
 returns c =

@@ -5,7 +5,7 @@ use Rattle.stocklog.specs.Replies.{more_told}
 use Rattle.stocklog.proofs.entry.more_of.Goals as goal
 
 pub returns-in-Entry : goal.returns-in-Entry
-returns-in-Entry c = sym (ap (λ x. more_told (found_in x)) c.f-1.given.1)
+returns-in-Entry c = sym (ap (λ x. more_told (found_in x)) c.in-Entry.is)
 
 pub returns-in-Refused : goal.returns-in-Refused
-returns-in-Refused c = sym (ap (λ x. more_told (found_in x)) c.enum_told-1.given.1)
+returns-in-Refused c = sym (ap (λ x. more_told (found_in x)) c.in-Refused.is)

@@ -7,10 +7,10 @@ use Rattle.stocklog.proofs.entry.of_entry.Goals as goal
 
 pub returns-in-Entry : goal.returns-in-Entry
 returns-in-Entry c =
-    let i = c.f-1.given.0.0 in
+    let i = c.in-Entry.i in
     c.done.ensures
     ∙ entry-said i c.kind_of.ensures
-    ∙ sym (ap (λ x. coded info_values no_values (found_in x)) c.f-1.given.1)
+    ∙ sym (ap (λ x. coded info_values no_values (found_in x)) c.in-Entry.is)
 
 pub returns-in-Refused : goal.returns-in-Refused
-returns-in-Refused c = c.refusal.ensures ∙ sym (ap (λ x. coded info_values no_values (found_in x)) c.f-in-Refused-1.given.1)
+returns-in-Refused c = c.refusal.ensures ∙ sym (ap (λ x. coded info_values no_values (found_in x)) c.in-Refused.is)

@@ -8,9 +8,9 @@ use Rattle.stocklog.proofs.numbers.refusal.Goals as goal
 pub returns-in-Number : goal.returns-in-Number
 returns-in-Number c =
     let a = c.args in
-    refusal_is a.r (values a.a a.b a.c) c.number_of-number.ensures c.told_of-t.ensures (ap (λ x. or_zero (told_in x)) c.t-1.given.1)
+    refusal_is a.r (values a.a a.b a.c) c.number_of-number.ensures c.told_of-t.ensures (ap (λ x. or_zero (told_in x)) c.in-Number.is)
 
 pub returns-in-Nothing : goal.returns-in-Nothing
 returns-in-Nothing c =
     let a = c.args in
-    refusal_is a.r (values a.a a.b a.c) c.number_of-number.ensures c.told_of-t.ensures (ap (λ x. or_zero (told_in x)) c.enum_told-1.given.1)
+    refusal_is a.r (values a.a a.b a.c) c.number_of-number.ensures c.told_of-t.ensures (ap (λ x. or_zero (told_in x)) c.in-Nothing.is)

@@ -8,7 +8,7 @@ use Rattle.stocklog.proofs.orders.of_priced.Goals as goal
 
 pub returns-in-Total : goal.returns-in-Total
 returns-in-Total c =
-    c.done.ensures ∙ total-said c.a-1.given.0.0 c.a-1.given.0.1.0 (omega arith) ∙ sym (ap (λ x. price_reply (priced_in x)) c.a-1.given.1)
+    c.done.ensures ∙ total-said c.in-Total.high c.in-Total.low (omega arith) ∙ sym (ap (λ x. price_reply (priced_in x)) c.in-Total.is)
 
 pub returns-in-Refused : goal.returns-in-Refused
-returns-in-Refused c = c.refusal.ensures ∙ sym (ap (λ x. price_reply (priced_in x)) c.a-in-Refused-1.given.1)
+returns-in-Refused c = c.refusal.ensures ∙ sym (ap (λ x. price_reply (priced_in x)) c.in-Refused.is)

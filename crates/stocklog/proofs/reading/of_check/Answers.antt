@@ -5,7 +5,7 @@ use Rattle.stocklog.specs.Replies.{check_reply}
 use Rattle.stocklog.proofs.reading.of_check.Goals as goal
 
 pub returns-in-Done : goal.returns-in-Done
-returns-in-Done c = c.done.ensures ∙ sym (ap (λ x. check_reply (checked_in x)) c.enum_told-1.given.1)
+returns-in-Done c = c.done.ensures ∙ sym (ap (λ x. check_reply (checked_in x)) c.in-Done.is)
 
 pub returns-in-Refused : goal.returns-in-Refused
-returns-in-Refused c = c.refusal.ensures ∙ sym (ap (λ x. check_reply (checked_in x)) c.c-1.given.1)
+returns-in-Refused c = c.refusal.ensures ∙ sym (ap (λ x. check_reply (checked_in x)) c.in-Refused.is)

@@ -5,10 +5,10 @@ use Rattle.stocklog.specs.Replies.{owed_reply}
 use Rattle.stocklog.proofs.reading.of_owed.Goals as goal
 
 pub returns-in-At : goal.returns-in-At
-returns-in-At c = c.done.ensures ∙ sym (ap (λ x. owed_reply (owed_in x)) c.o-1.given.1)
+returns-in-At c = c.done.ensures ∙ sym (ap (λ x. owed_reply (owed_in x)) c.in-At.is)
 
 pub returns-in-Nothing : goal.returns-in-Nothing
-returns-in-Nothing c = c.done-in-Nothing.ensures ∙ sym (ap (λ x. owed_reply (owed_in x)) c.enum_told-1.given.1)
+returns-in-Nothing c = c.done-in-Nothing.ensures ∙ sym (ap (λ x. owed_reply (owed_in x)) c.in-Nothing.is)
 
 pub returns-in-Refused : goal.returns-in-Refused
-returns-in-Refused c = c.refusal.ensures ∙ sym (ap (λ x. owed_reply (owed_in x)) c.o-in-Refused-1.given.1)
+returns-in-Refused c = c.refusal.ensures ∙ sym (ap (λ x. owed_reply (owed_in x)) c.in-Refused.is)

@@ -5,7 +5,7 @@ use Rattle.stocklog.specs.Replies.{reply, cell_values}
 use Rattle.stocklog.proofs.replicas.of_held.Goals as goal
 
 pub returns-in-Never : goal.returns-in-Never
-returns-in-Never c = c.done.ensures ∙ sym (ap (λ x. reply 0 (cell_values (held_case x)) 0) c.enum_told-1.given.1)
+returns-in-Never c = c.done.ensures ∙ sym (ap (λ x. reply 0 (cell_values (held_case x)) 0) c.in-Never.is)
 
 pub returns-in-Written : goal.returns-in-Written
-returns-in-Written c = c.of_written.ensures ∙ sym (ap (λ x. reply 0 (cell_values (held_case x)) 0) c.h-1.given.1)
+returns-in-Written c = c.of_written.ensures ∙ sym (ap (λ x. reply 0 (cell_values (held_case x)) 0) c.in-Written.is)

@@ -8,9 +8,9 @@ use Rattle.stocklog.proofs.replicas.of_left.Goals as goal
 pub returns-in-Done : goal.returns-in-Done
 returns-in-Done c =
     let r = replica_in c.args.l.record in
-    c.done.ensures ∙ sym (ap (λ x. stand_reply r (checked_in x)) c.enum_told-1.given.1)
+    c.done.ensures ∙ sym (ap (λ x. stand_reply r (checked_in x)) c.in-Done.is)
 
 pub returns-in-Refused : goal.returns-in-Refused
 returns-in-Refused c =
     let r = replica_in c.args.l.record in
-    c.refusal.ensures ∙ sym (ap (λ x. stand_reply r (checked_in x)) c.a-1.given.1)
+    c.refusal.ensures ∙ sym (ap (λ x. stand_reply r (checked_in x)) c.in-Refused.is)

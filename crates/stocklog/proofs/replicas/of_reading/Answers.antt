@@ -5,7 +5,7 @@ use Rattle.stocklog.specs.Replies.{cell_reply}
 use Rattle.stocklog.proofs.replicas.of_reading.Goals as goal
 
 pub returns-in-Cell : goal.returns-in-Cell
-returns-in-Cell c = c.of_held.ensures ∙ sym (ap (λ x. cell_reply (read_in x)) c.a-1.given.1)
+returns-in-Cell c = c.of_held.ensures ∙ sym (ap (λ x. cell_reply (read_in x)) c.in-Cell.is)
 
 pub returns-in-Refused : goal.returns-in-Refused
-returns-in-Refused c = c.refusal.ensures ∙ sym (ap (λ x. cell_reply (read_in x)) c.a-in-Refused-1.given.1)
+returns-in-Refused c = c.refusal.ensures ∙ sym (ap (λ x. cell_reply (read_in x)) c.in-Refused.is)

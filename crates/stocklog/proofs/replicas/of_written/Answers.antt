@@ -12,9 +12,9 @@ said v x = reply 0 (content_values v (content_in x)) 0
 pub returns-in-Removed : goal.returns-in-Removed
 returns-in-Removed c =
     let a = c.args in
-    c.done.ensures ∙ sym (ap (said a.w.version.0) c.enum_told-1.given.1)
+    c.done.ensures ∙ sym (ap (said a.w.version.0) c.in-Removed.is)
 
 pub returns-in-Value : goal.returns-in-Value
 returns-in-Value c =
     let a = c.args in
-    c.done-in-Value.ensures ∙ sym (ap (said a.w.version.0) c.c-1.given.1)
+    c.done-in-Value.ensures ∙ sym (ap (said a.w.version.0) c.in-Value.is)

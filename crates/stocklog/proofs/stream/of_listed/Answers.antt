@@ -5,7 +5,7 @@ use Rattle.stocklog.specs.Replies.{number_reply}
 use Rattle.stocklog.proofs.stream.of_listed.Goals as goal
 
 pub returns-in-Count : goal.returns-in-Count
-returns-in-Count c = c.done.ensures ∙ sym (ap (λ x. number_reply (count_in x)) c.l-1.given.1)
+returns-in-Count c = c.done.ensures ∙ sym (ap (λ x. number_reply (count_in x)) c.in-Count.is)
 
 pub returns-in-Refused : goal.returns-in-Refused
-returns-in-Refused c = c.refusal.ensures ∙ sym (ap (λ x. number_reply (count_in x)) c.l-in-Refused-1.given.1)
+returns-in-Refused c = c.refusal.ensures ∙ sym (ap (λ x. number_reply (count_in x)) c.in-Refused.is)

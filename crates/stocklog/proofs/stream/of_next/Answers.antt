@@ -7,14 +7,14 @@ use Rattle.stocklog.proofs.stream.of_next.Goals as goal
 pub returns-in-At : goal.returns-in-At
 returns-in-At c =
     let reader = c.args.n.reader.0 in
-    c.done.ensures ∙ sym (ap (λ x. next_reply (record { found = next_entry_in x; reader = reader })) c.found-1.given.1)
+    c.done.ensures ∙ sym (ap (λ x. next_reply (record { found = next_entry_in x; reader = reader })) c.in-At.is)
 
 pub returns-in-End : goal.returns-in-End
 returns-in-End c =
     let reader = c.args.n.reader.0 in
-    c.done-in-End.ensures ∙ sym (ap (λ x. next_reply (record { found = next_entry_in x; reader = reader })) c.enum_told-1.given.1)
+    c.done-in-End.ensures ∙ sym (ap (λ x. next_reply (record { found = next_entry_in x; reader = reader })) c.in-End.is)
 
 pub returns-in-Refused : goal.returns-in-Refused
 returns-in-Refused c =
     let reader = c.args.n.reader.0 in
-    c.refusal.ensures ∙ sym (ap (λ x. next_reply (record { found = next_entry_in x; reader = reader })) c.found-in-Refused-1.given.1)
+    c.refusal.ensures ∙ sym (ap (λ x. next_reply (record { found = next_entry_in x; reader = reader })) c.in-Refused.is)
