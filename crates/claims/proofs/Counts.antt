@@ -1,7 +1,7 @@
 -- How many cells of a set's objects were written: a cell written for the first time adds one, and what other objects hold
 -- does not matter. By induction over the keys, then over the directory, whose ids ascend, so that an object is in it once.
 use Prim.Native.Nat.{ℕ, zero, suc, ◌+◌, ◌<◌, ◌≤◌}
-use mathlib.Core.Path.{◌≡◌, refl, ap₂, sym}
+use mathlib.Core.Path.{◌≡◌, refl, ap₂, sym, subst}
 use mathlib.Core.Bool.{Bool, true, false, cond, ◌&&◌, ◌||◌}
 use mathlib.Core.List.{List, [], ◌∷◌}
 use mathlib.Core.Option.{none, some}
@@ -133,6 +133,9 @@ module _ (cells : Holds) (o k : ℕ) (h : Held) (new : is_none (cells o k) ≡ t
         tall true x e i j = omega (arith, leb-true k b.highest e)
         tall false x e i j = clash x i j
 
+        one-more : (m n i j : ℕ) → m ≡ n + 1 → i ≡ j → m + i ≡ n + j + 1
+        one-more m n i j e f = omega arith
+
         absent : (x : Bool) → cell_in bs o k ≡ x → mem o (ids_of bs) ≡ false → cell_in bs o k ≡ false
         absent true e m = clash (mem o (ids_of bs)) (cell-object bs o k e) m
         absent false e m = e
@@ -143,6 +146,9 @@ module _ (cells : Holds) (o k : ℕ) (h : Held) (new : is_none (cells o k) ≡ t
         go true e i ih =
             let q = eqb-true b.id o e in
             let m : mem o (ids_of bs) ≡ false = rw q at (once b bs a) in
-            rw (q, hosted, written-other bs m, keys-new (suc b.highest) (tall (leb k b.highest) (cell_in bs o k) refl i (absent (cell_in bs o k) refl m)))
-            (omega arith)
+            let e = keys-new (suc b.highest) (tall (leb k b.highest) (cell_in bs o k) refl i (absent (cell_in bs o k) refl m)) in
+            let f : keys_written (put cells o k h) b.id (suc b.highest) ≡ keys_written cells b.id (suc b.highest) + 1 =
+                subst (λ (x : ℕ). keys_written (put cells o k h) x (suc b.highest) ≡ keys_written cells x (suc b.highest) + 1) (sym q) e in
+            let s : mem b.id set ≡ true = subst (λ (x : ℕ). mem x set ≡ true) (sym q) hosted in
+            rw s (one-more _ _ _ _ f (written-other bs m))
         go false e i ih = rw (keys-other b.id (λ q. eqb-false b.id o e (sym q)) (suc b.highest), ih i) (omega arith)
