@@ -9,4 +9,4 @@ pub returns : goal.returns
 unfolding header_call
 returns c =
     let place = c.args.place in
-    c.put.ensures ∙ c.of_found.ensures ∙ ap (λ (x : Answer Info). header_reply (header_in x place)) c.entry-f.ensures.0
+    c.put.ensures ∙ c.of_found.ensures ∙ ap (λ (x : Answer Info). header_reply (header_in x place)) c.entry-f.ensures.found
