@@ -1,5 +1,6 @@
 // A program's input as numbers and parts; past its end numbers are 0 and parts empty.
 #![tactic(auto)]
+
 ghost use Rattle.std.specs.Prelude.{◌≡◌, ◌%◌};
 ghost use Rattle.cases.specs.Input.{number_at, part_at, place_after};
 

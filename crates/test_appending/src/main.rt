@@ -2,6 +2,7 @@
 // cases: tail, length of the log, the log, number of requests, the requests. It and the expected output come from the second
 // implementation.
 #![tactic(auto)]
+
 mod requests;
 
 // The directory of the eight objects has so many bytes.

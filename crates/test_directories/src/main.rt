@@ -1,6 +1,7 @@
 // Hands directories of standard input, good and faulty, to every call, and prints the answers, and what the calls left. The input
 // is a list of cases: directory, log, tail, hosted set, object, key. It and the expected output come from the second implementation.
 #![tactic(auto)]
+
 mod appending;
 mod playing;
 mod reading;

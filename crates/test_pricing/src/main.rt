@@ -1,6 +1,7 @@
 // Prices the orders of standard input, and prints each total or refusal. The input is a list of cases: directory, record, table, object,
 // prices. It and the expected output come from the second implementation.
 #![tactic(auto)]
+
 use codec::names::ObjectId;
 use pricing::walk::Priced;
 use records::Record;

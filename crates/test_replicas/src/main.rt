@@ -2,6 +2,7 @@
 // and the tables that they left. The input is a list of cases: log, table, record, requests. It and the expected output come
 // from the second implementation.
 #![tactic(auto)]
+
 mod requests;
 
 use records::Record;
