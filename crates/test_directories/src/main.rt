@@ -55,7 +55,7 @@ fn cases(input: &[u8]) {
 }
 
 fn main() {
-    let mut buffer = [0u8; 524288];
+    let mut buffer = cases::zeros::<524288>();
     let n = io::read_full(0, &mut buffer);
     cases(&buffer[..n]);
 }

@@ -38,7 +38,7 @@ fn cases(dir: &[u8], input: &[u8]) {
 }
 
 fn main() {
-    let mut buffer = [0u8; 262144];
+    let mut buffer = cases::zeros::<262144>();
     let n = io::read_full(0, &mut buffer);
     let mut dir = [0u8; EIGHT_SIZE];
     directory::eight::write_eight(&mut dir);
