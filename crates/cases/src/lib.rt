@@ -1,6 +1,7 @@
 // A program's input as numbers and parts; past its end numbers are 0 and parts empty.
 #![tactic(auto)]
-ghost use Rattle.std.specs.Prelude.{◌≡◌, ◌%◌};
+
+ghost use Rattle.std.specs.Prelude.{◌≡◌, ◌%◌, length};
 ghost use Rattle.cases.specs.Input.{number_at, part_at, place_after};
 
 // The place n after another, or the end.
@@ -58,4 +59,11 @@ pub fn low(n: u32) -> u64
     ensures { result ≡ n % 256 }
 {
     (n % 256) as u64
+}
+
+// So many zeros, as room for an input. Only their number is told: a proof that saw them would write out each.
+pub fn zeros<const N: usize>() -> [u8; N]
+    ensures { N ≡ length result }
+{
+    [0; N]
 }

@@ -1,5 +1,6 @@
 // Reads a log from standard input, audits and plays it, and prints the outcomes and the cells, or the refusal (specification §15).
 #![tactic(auto)]
+
 mod cells;
 mod outcomes;
 

@@ -1,5 +1,6 @@
 // Words and numbers on standard output, as the programs print them.
 #![tactic(auto)]
+
 ghost use Rattle.std.specs.Prelude.{◌≡◌};
 
 use answers::{Checked, Refusal, Told};

@@ -1,6 +1,7 @@
 // Hands directories of standard input, good and faulty, to every call, and prints the answers, and what the calls left. The input
 // is a list of cases: directory, log, tail, hosted set, object, key. It and the expected output come from the second implementation.
 #![tactic(auto)]
+
 mod appending;
 mod playing;
 mod reading;
@@ -54,7 +55,7 @@ fn cases(input: &[u8]) {
 }
 
 fn main() {
-    let mut buffer = [0u8; 524288];
+    let mut buffer = cases::zeros::<524288>();
     let n = io::read_full(0, &mut buffer);
     cases(&buffer[..n]);
 }

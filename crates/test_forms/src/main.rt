@@ -2,8 +2,9 @@
 // what they answer. The input comes from the second implementation, and so does the expected output, by its stream list and its
 // play by value.
 #![tactic(auto)]
+
 mod runs;
-mod streams;
+mod stream_calls;
 
 // The directory of the eight objects has so many bytes.
 const EIGHT_SIZE: usize = 128;
@@ -19,7 +20,7 @@ fn case(dir: &[u8], input: &[u8], at: usize) -> usize {
     let n = cases::word(input, fourth);
     let fifth = cases::after(input, fourth, 4);
     if kind == 1 {
-        streams::all(dir, log, n);
+        stream_calls::all(dir, log, n);
         return fifth;
     }
     runs::all(dir, input, fifth, n as usize, log)
@@ -37,7 +38,7 @@ fn cases(dir: &[u8], input: &[u8]) {
 }
 
 fn main() {
-    let mut buffer = [0u8; 262144];
+    let mut buffer = cases::zeros::<262144>();
     let n = io::read_full(0, &mut buffer);
     let mut dir = [0u8; EIGHT_SIZE];
     directory::eight::write_eight(&mut dir);

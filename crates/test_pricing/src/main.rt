@@ -1,6 +1,7 @@
 // Prices the orders of standard input, and prints each total or refusal. The input is a list of cases: directory, record, table, object,
 // prices. It and the expected output come from the second implementation.
 #![tactic(auto)]
+
 use codec::names::ObjectId;
 use pricing::walk::Priced;
 use records::Record;
@@ -72,7 +73,7 @@ fn cases(input: &[u8]) {
 }
 
 fn main() {
-    let mut buffer = [0u8; 524288];
+    let mut buffer = cases::zeros::<524288>();
     let n = io::read_full(0, &mut buffer);
     cases(&buffer[..n]);
 }

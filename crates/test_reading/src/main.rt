@@ -1,8 +1,9 @@
 // Runs the reading calls on the logs of standard input and prints their answers. The input is a list of cases: tail and
 // length of the log, 4 bytes each, then the log. It and the expected output come from the second implementation.
 #![tactic(auto)]
+
 mod calls;
-mod streams;
+mod stream_calls;
 
 // The directory of the eight objects has so many bytes.
 const EIGHT_SIZE: usize = 128;
@@ -13,10 +14,10 @@ fn case(dir: &[u8], log: &[u8], tail: usize) {
     calls::owed(dir, log, tail);
     calls::entries(dir, log, tail);
     for x in 0..10 {
-        streams::nexts(dir, log, tail, x);
+        stream_calls::nexts(dir, log, tail, x);
     }
     for x in 0..10 {
-        streams::lists(dir, log, tail, x);
+        stream_calls::lists(dir, log, tail, x);
     }
 }
 
@@ -36,7 +37,7 @@ fn cases(dir: &[u8], input: &[u8]) {
 }
 
 fn main() {
-    let mut buffer = [0u8; 262144];
+    let mut buffer = cases::zeros::<262144>();
     let n = io::read_full(0, &mut buffer);
     let mut dir = [0u8; EIGHT_SIZE];
     directory::eight::write_eight(&mut dir);

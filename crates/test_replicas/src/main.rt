@@ -2,6 +2,7 @@
 // and the tables that they left. The input is a list of cases: log, table, record, requests. It and the expected output come
 // from the second implementation.
 #![tactic(auto)]
+
 mod requests;
 
 use records::Record;
@@ -89,7 +90,7 @@ fn cases(dir: &[u8], input: &[u8]) {
 }
 
 fn main() {
-    let mut buffer = [0u8; 524288];
+    let mut buffer = cases::zeros::<524288>();
     let n = io::read_full(0, &mut buffer);
     let mut dir = [0u8; EIGHT_SIZE];
     directory::eight::write_eight(&mut dir);
