@@ -57,12 +57,12 @@ module _ (d : List ℕ) (log : Lent) where
       ∙ ap (item_list (shape_of c.call.given.0.now) (in_log log)) c.at
       ∙ ap (λ (x : List ℕ). item_list (shape_of x) (in_log log) o) c.dir
 
-  pub items-place : (o : ℕ) (c : ItemsCall d log o) → c.call.answer.ptr ≡ further c.call.given.1.0.ptr (items_from (shape_of d) (in_log log) o)
+  pub items-place : (o : ℕ) (c : ItemsCall d log o) → c.call.answer.ref_ptr ≡ further c.call.given.1.0.ref_ptr (items_from (shape_of d) (in_log log) o)
   items-place o c =
       c.call.learnt.1
-      ∙ ap (λ (l : Lent). further c.call.given.1.0.ptr (items_from (shape_of c.call.given.0.now) (in_log l) c.call.given.1.1.1.0.0)) (lent log _ _ c.bytes c.tail)
-      ∙ ap (λ (n : ℕ). further c.call.given.1.0.ptr (items_from (shape_of c.call.given.0.now) (in_log log) n)) c.at
-      ∙ ap (λ (x : List ℕ). further c.call.given.1.0.ptr (items_from (shape_of x) (in_log log) o)) c.dir
+      ∙ ap (λ (l : Lent). further c.call.given.1.0.ref_ptr (items_from (shape_of c.call.given.0.now) (in_log l) c.call.given.1.1.1.0.0)) (lent log _ _ c.bytes c.tail)
+      ∙ ap (λ (n : ℕ). further c.call.given.1.0.ref_ptr (items_from (shape_of c.call.given.0.now) (in_log log) n)) c.at
+      ∙ ap (λ (x : List ℕ). further c.call.given.1.0.ref_ptr (items_from (shape_of x) (in_log log) o)) c.dir
 
   pub audit-promise : (c : AuditCall d log) → audit_left c ≡ model-replica.audit (shape_of d) (in_log log) (scratch c)
   audit-promise c =

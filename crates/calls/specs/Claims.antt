@@ -100,7 +100,7 @@ CallsReadBack = (c : AppendCall) (t : ℕ) → (seen c).answer ≡ appended.Tail
 
 -- the list of items is handed out where it stands in the lent log
 abbrev pub CallsItemsPlace : Type 0
-CallsItemsPlace = (d : List ℕ) (log : Lent) (o : ℕ) (c : ItemsCall d log o) → c.call.answer.ptr ≡ further c.call.given.1.0.ptr (items_from (shape_of d) (in_log log) o)
+CallsItemsPlace = (d : List ℕ) (log : Lent) (o : ℕ) (c : ItemsCall d log o) → c.call.answer.ref_ptr ≡ further c.call.given.1.0.ref_ptr (items_from (shape_of d) (in_log log) o)
 
 -- entries that read alike are the same bytes (17.4)
 abbrev pub CallsSameBytes : Type 0
