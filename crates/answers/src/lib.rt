@@ -1,5 +1,6 @@
 // The answers other than done (13.3), as one enum that every call answers with.
 #![tactic(auto)]
+
 ghost use Rattle.std.specs.Prelude.{◌≡◌};
 ghost use Rattle.model.specs.Answers.{answer, bad_directory};
 ghost use Rattle.model.specs.Directory.{shape_of};

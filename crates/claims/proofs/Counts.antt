@@ -148,7 +148,7 @@ module _ (cells : Holds) (o k : ℕ) (h : Held) (new : is_none (cells o k) ≡ t
             let m : mem o (ids_of bs) ≡ false = rw q at (once b bs a) in
             let e = keys-new (suc b.highest) (tall (leb k b.highest) (cell_in bs o k) refl i (absent (cell_in bs o k) refl m)) in
             let f : keys_written (put cells o k h) b.id (suc b.highest) ≡ keys_written cells b.id (suc b.highest) + 1 =
-                subst (λ (x : ℕ). keys_written (put cells o k h) x (suc b.highest) ≡ keys_written cells x (suc b.highest) + 1) (sym q) e in
+            subst (λ (x : ℕ). keys_written (put cells o k h) x (suc b.highest) ≡ keys_written cells x (suc b.highest) + 1) (sym q) e in
             let s : mem b.id set ≡ true = subst (λ (x : ℕ). mem x set ≡ true) (sym q) hosted in
             rw s (one-more _ _ _ _ f (written-other bs m))
         go false e i ih = rw (keys-other b.id (λ q. eqb-false b.id o e (sym q)) (suc b.highest), ih i) (omega arith)

@@ -1,5 +1,6 @@
 // The C interface: each exported function is one proved call, and its answer as a number and `out`.
 #![tactic(auto)]
+
 mod appending;
 mod entry;
 mod numbers;

@@ -13,7 +13,7 @@ pub returns-in-Refused : goal.returns-in-Refused
 returns-in-Refused c =
     let a = c.args in
     let e = items-said a.dir.now a.log.now a.tail a.offset
-        (c.put.ensures ∙ c.refusal.ensures ∙ sym (ap (λ x. items_reply a.offset (found_in x)) c.in-Refused.is) ∙ ap (items_reply a.offset) c.entry-f.ensures.found) in
+    (c.put.ensures ∙ c.refusal.ensures ∙ sym (ap (λ x. items_reply a.offset (found_in x)) c.in-Refused.is) ∙ ap (items_reply a.offset) c.entry-f.ensures.found) in
     record { out_after = e.0; log_after = e.1 }
 
 placed : (c : goal.In-Entry) → c.args.offset < most_slots
@@ -31,5 +31,5 @@ pub returns-in-Entry : goal.returns-in-Entry
 returns-in-Entry c =
     let a = c.args in
     let e = items-said a.dir.now a.log.now a.tail a.offset
-        (c.put-in-Entry.ensures ∙ c.done.ensures ∙ sym (ap (λ x. items_reply a.offset (found_in x)) c.in-Entry.is) ∙ ap (items_reply a.offset) c.entry-f.ensures.found) in
+    (c.put-in-Entry.ensures ∙ c.done.ensures ∙ sym (ap (λ x. items_reply a.offset (found_in x)) c.in-Entry.is) ∙ ap (items_reply a.offset) c.entry-f.ensures.found) in
     record { out_after = e.0; log_after = e.1 }
