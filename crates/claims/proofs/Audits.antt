@@ -17,7 +17,7 @@ use Rattle.model.specs.Entries.{Decision, Write, Read, Condition, Entry, plain, 
 use Rattle.model.specs.Rules.{ok_write, ok_writes, ok_read, ok_reads, ok_entry, lowest_bad}
 use Rattle.model.specs.Table.{Cell, lookup, capacity}
 use Rattle.model.specs.Play.{Played, going, waits, lacks, cells_in, alone, commits_over, whole, step, and_then, play}
-use Rattle.model.specs.Answers.{Refusal, done, answer, first_of, slots, bad_frame, frame_and_entries}
+use Rattle.model.specs.Answers.{Refusal, done, first_of, slots, bad_frame, frame_and_entries}
 use Rattle.model.specs.Replica.{audit_play, commits_there, as_played, lowest_false, audit_given, audit}
 use Rattle.model.specs.Run.{commits_now}
 use Rattle.model.specs.Histories.{is_refused}

@@ -17,7 +17,7 @@ use Rattle.model.specs.Slot.{log_in, most_slots, ok_shape}
 use Rattle.model.specs.Rules.{ok_entry, lowest_bad}
 use Rattle.model.specs.Answers.{Answer, done, refused, slots, bad_frame}
 use Rattle.model.specs.Append.{Request, entry_of}
-use Rattle.model.specs.Run.{Fed, start, accept, run_at}
+use Rattle.model.specs.Run.{Fed, accept, run_at}
 use Rattle.model.specs.Histories.{Accepted, Lent, in_log, tail_after, is_refused, append_to, after, grown, feed, empty, History, whole_log, stood, ran_to}
 use Rattle.laws.proofs.Agree.{Agree, fewer}
 use Rattle.laws.proofs.Appends.{accepted, refused-same, good-kept}

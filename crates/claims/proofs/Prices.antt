@@ -19,7 +19,7 @@ use Rattle.model.specs.Answers.{Refusal, Answer, done, refused, refuse, refuse_a
 use Rattle.model.specs.Append.{Replica, bad_record}
 use Rattle.model.specs.Replica.{read_cell}
 use Rattle.model.specs.Pricing.{most_cents, Price, prices_in, line_of, price_of, unpriced, total, bad_order, price}
-use Rattle.model.specs.Histories.{is_refused, ran_to, hosts}
+use Rattle.model.specs.Histories.{is_refused, ran_to}
 use Rattle.model.specs.Claims.{Shows}
 use Rattle.model.specs.PriceClaims.{HasPrice, quantity_in, Adds, PricedBy, PriceOfReadings, PriceOfRun, TwoParts, PriceFits, PriceAsked, LineShown, PriceAllowed, PricesExactly, LowestUnpriced, no_price, LowestKey}
 use Rattle.model.specs.Worked.{code, tells}

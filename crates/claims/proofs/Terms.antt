@@ -19,7 +19,7 @@ use Rattle.model.specs.Objects.{Shape}
 use Rattle.model.specs.Entries.{Write, Entry, plain, numbered, commit, decision, checkpoint, blank, effect, Log, aside_under, writes_of, if_some, closed, outcome_after, decided, is_none, written_objects, commit_objects, closes_in}
 use Rattle.model.specs.Slot.{log_in, most_slots, ok_shape}
 use Rattle.model.specs.Table.{Cell, cell_before, in_order}
-use Rattle.model.specs.Answers.{slots, bad_frame}
+use Rattle.model.specs.Answers.{bad_frame}
 use Rattle.model.specs.Histories.{Lent, in_log}
 use Rattle.model.specs.Terms.{GoodFrame, InOrder, SetAside, Committed, Decided, Concerns}
 use Rattle.laws.proofs.Sizes.{layout}

@@ -1,6 +1,6 @@
 -- Prices worked by hand as one table, and one fact that covers all its rows (specification 18.4 to 18.8): lines and their rounding, totals, and which
 -- refusal comes first. Beside it a total of more than 64 bits.
-use Rattle.std.specs.Prelude.{ℕ, ◌+◌, ◌-◌, ◌^◌, ◌≡◌, refl, Bool, true, ◌&&◌, List, [], ◌∷◌, ◌++◌, eqb, length, take}
+use Rattle.std.specs.Prelude.{ℕ, ◌≡◌, refl, Bool, true, ◌&&◌, List, [], ◌∷◌, ◌++◌, eqb, length, take}
 use Rattle.std.proofs.Math.Option.{Option, none, some}
 use Rattle.lists.specs.Bytes.{be_at, bytes_of}
 use Rattle.lists.specs.Rows.{values, joined}

@@ -7,7 +7,7 @@ use Rattle.model.specs.Objects.{Shape, ids, is_cell, hosted, set_of, everything,
 use Rattle.model.specs.Entries.{Held, Saved, Entry, plain, numbered, commit, decision, checkpoint, blank, Log, commit_at, if_some, is_none}
 use Rattle.model.specs.Rules.{lowest}
 use Rattle.model.specs.Table.{Cell, cells_of, table_with, capacity, lookup, cell_of, saved_of}
-use Rattle.model.specs.Play.{Played, going, waits, lacks, cells_in, commits_over, whole, play, Beginning, beginning}
+use Rattle.model.specs.Play.{Played, going, waits, lacks, cells_in, commits_over, whole, play, beginning}
 use Rattle.model.specs.Answers.{Refusal, Answer, done, refused, refuse, refuse_at, first_of, answer, bad_directory, frame_and_entries}
 use Rattle.model.specs.Append.{Replica, bad_record, bad_replica}
 

@@ -11,7 +11,7 @@ use Rattle.lists.specs.First.{first, first_from}
 use Rattle.lists.specs.Equal.{eq_list}
 use Rattle.lists.specs.Sets.{all}
 use Rattle.model.specs.Objects.{a_map, a_register, the_objects, the_layout, depots, Shape, everything, is_object, is_cell, hosted}
-use Rattle.model.specs.Entries.{checkpoint, Log, writes_of, stamps, astray, closed, decided, header_objects, number_of, earlier, named}
+use Rattle.model.specs.Entries.{checkpoint, Log, writes_of, stamps, astray, closed, decided, header_objects, earlier, named}
 use Rattle.model.specs.Slot.{headers_begin, header_size, items_begin, distance_to, header_with, write_bytes, write_at, read_bytes, read_at, saved_bytes, saved_at, item_bytes, item_count, header_of, slot_of, decode, slot, log_in, objects_in, last_bytes}
 use Rattle.model.specs.Headers.{BackPointer, nothing, at as entry_at, past, format_at, backs_at, due_format, due_backs}
 use Rattle.model.specs.Rules.{ok_entry, lowest, lowest_bad, ok_write, ok_writes, ok_read, ok_reads, ok_saved, narrow, good_at, repeats, ok_names}

@@ -5,7 +5,6 @@ use Rattle.std.proofs.Common.{ap, sym, subst, ◌∙◌, arith, eq-eqb}
 use Rattle.lists.specs.Bytes.{be_at}
 use Rattle.std.proofs.lemmas.List.{length-map, length-replicate, get_or-replicate}
 use Rattle.std.proofs.Math.ListN.{get_or-map}
-use Rattle.lists.specs.Sets.{all}
 use Rattle.model.specs.Table.{Cell, is_of, cell_at, cell_size}
 use Rattle.laws.specs.Ruled.{Ruled}
 use Rattle.laws.proofs.ByPlace.{id_of, few-records}

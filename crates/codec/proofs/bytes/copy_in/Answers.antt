@@ -1,5 +1,4 @@
 use mathlib.Core.Path.{refl}
-use Prim.Native.Nat.{◌-◌}
 use Rattle.lists.specs.Splice.{copying-none, copying-more, copying-all}
 use Rattle.codec.proofs.bytes.copy_in.Goals as goal
 

@@ -1,5 +1,4 @@
 use mathlib.Core.Path.{sym}
-use Prim.Native.Nat.{◌-◌}
 use Rattle.lists.specs.Equal.{eq_list-size}
 use Rattle.codec.specs.Same.{compared-none, compared-more, compared-all}
 use Rattle.codec.proofs.bytes.same.Goals as goal

@@ -1,4 +1,3 @@
-use Prim.Native.Nat.{◌-◌}
 use native.Mathlib.Omega.{arith}
 use Rattle.codec.specs.Same.{zeros-none, zeros-more, zeros-all}
 use Rattle.codec.proofs.bytes.zeros.Goals as goal

@@ -1,5 +1,4 @@
 use mathlib.Core.Path.{sym, ◌∙◌}
-use Prim.Native.Nat.{◌-◌}
 use Rattle.lists.specs.First.{seeking-none, seeking-more}
 use Rattle.directory.specs.Faults.{fault-found, fault-nowhere}
 use Rattle.directory.proofs.faults.fault.Goals as goal

@@ -1,6 +1,6 @@
 use mathlib.Core.Path.{ap, sym, ◌∙◌}
 use mathlib.Core.Bool.{not}
-use Prim.Native.Nat.{ℕ, ◌-◌, ◌*◌}
+use Prim.Native.Nat.{ℕ, ◌*◌}
 use Rattle.lists.specs.First.{seeking-none, seeking-more}
 use Rattle.lists.specs.Rows.{values}
 use Rattle.lists.specs.Sets.{all}

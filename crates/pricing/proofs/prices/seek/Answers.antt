@@ -1,4 +1,3 @@
-use Prim.Native.Nat.{◌-◌}
 use native.Mathlib.Omega.{arith}
 use Rattle.pricing.specs.Prices.{under_more, sought-here, sought-end}
 use Rattle.pricing.proofs.prices.seek.Goals as goal

@@ -1,5 +1,4 @@
 use mathlib.Core.Path.{subst}
-use Prim.Native.Nat.{◌-◌}
 use native.Mathlib.Omega.{arith}
 use Rattle.table.specs.Rows.{cell_in}
 use Rattle.pricing.specs.Walks.{SteppedSo, walking-none, step_given, walking_on, walking-lacks, walking-all}
