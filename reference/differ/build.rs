@@ -11,7 +11,7 @@ fn stop(message: &str) -> ! {
 fn main() {
     println!("cargo:rerun-if-env-changed=STOCKLOG_LIB");
     let Ok(archive) = env::var("STOCKLOG_LIB") else {
-        stop("STOCKLOG_LIB is not set: it must name the archive to test, such as target/staticlib/libstocklog.a with its whole path");
+        stop("STOCKLOG_LIB is not set: it must name the archive to test, such as crates/stocklog/out/libstocklog.a with its whole path");
     };
     let Ok(out) = env::var("OUT_DIR") else {
         stop("OUT_DIR is not set: cargo runs this script");
