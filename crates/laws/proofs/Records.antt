@@ -13,7 +13,7 @@ use lib.ListN.{length, get_or, take, drop, length-append}
 use Rattle.lists.specs.Tests.{ands, ors, and_l, and_r, both, neither, or_case, clash}
 use Rattle.lists.specs.Bytes.{be_at, bytes_of, length-bytes_of, be_at-field}
 use Rattle.lists.specs.Rows.{values, values_same, length-joined}
-use Rattle.lists.specs.Sets.{all, all-weaken, all_get_d, ascending}
+use Rattle.lists.specs.Sets.{all, all-weaken, all-get_or, ascending}
 use Rattle.lists.specs.First.{seeking-from}
 use Rattle.lists.specs.Every.{failing, every-all}
 use Rattle.lists.specs.Ascend.{unordered, ascend-all}
@@ -319,7 +319,7 @@ module _ (bs : List Object) (each : all ok_listed bs ≡ true) where
   at k = get_or bs k spare
 
   listed_at : (k : ℕ) → ok_listed (at k) ≡ true
-  listed_at k = all_get_d ok_listed bs k spare each refl
+  listed_at k = all-get_or ok_listed bs k spare each refl
 
   fields_at : (k : ℕ) → k < length bs → Fields bytes (record_size * k) (at k)
   unfolding directory_of

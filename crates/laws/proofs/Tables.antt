@@ -13,7 +13,7 @@ use Rattle.model.specs.Entries.{Held}
 use Rattle.lists.specs.Bytes.{be_at, be_at-lt, bytes_of, bytes_of-be_at}
 use Rattle.lists.specs.Rows.{joined, values, length-values, length-joined, values_same, values-joined, joined-values}
 use Rattle.lists.specs.Tests.{both, and_l, and_r}
-use Rattle.lists.specs.Sets.{all, all_get_d}
+use Rattle.lists.specs.Sets.{all, all-get_or}
 use Rattle.lists.specs.First.{seeking-from}
 use Rattle.lists.specs.Every.{failing, every-all}
 use Rattle.model.specs.Table.{Cell, cell_at, cell_bytes, cells_of, table_with, cell_size, is_of, cell_of, cell_before, store}
@@ -64,7 +64,7 @@ all-store f (c ∷ cs) o k h a e = go (is_of o k c) (cell_before (cell_of o k h)
 
 module _ (table : List ℕ) (bytes : all (λ x. ltb x 256) table ≡ true) where
   small : (k : ℕ) → get_or table k 0 < 256
-  small k = ltb-true (get_or table k 0) 256 (all_get_d (λ x. ltb x 256) table k 0 bytes refl)
+  small k = ltb-true (get_or table k 0) 256 (all-get_or (λ x. ltb x 256) table k 0 bytes refl)
 
   -- a number read and stored again
   pub word : (n i : ℕ) → i + n ≤ length table → bytes_of n (be_at n table i) ≡ take n (drop i table)

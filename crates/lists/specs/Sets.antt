@@ -47,10 +47,10 @@ ascending_set (x ∷ xs) = insert_once x (ascending_set xs)
 -- ---- a test of each element
 
 module _ {A : Type 0} where
-  pub all_get_d : (f : A → Bool) (xs : List A) (k : ℕ) (d : A) → all f xs ≡ true → f d ≡ true → f (get_or xs k d) ≡ true
-  all_get_d f [] k d h e = e
-  all_get_d f (x ∷ xs) zero d h e = and_l (f x) (all f xs) h
-  all_get_d f (x ∷ xs) (suc k) d h e = all_get_d f xs k d (and_r (f x) (all f xs) h) e
+  pub all-get_or : (f : A → Bool) (xs : List A) (k : ℕ) (d : A) → all f xs ≡ true → f d ≡ true → f (get_or xs k d) ≡ true
+  all-get_or f [] k d h e = e
+  all-get_or f (x ∷ xs) zero d h e = and_l (f x) (all f xs) h
+  all-get_or f (x ∷ xs) (suc k) d h e = all-get_or f xs k d (and_r (f x) (all f xs) h) e
 
   -- a test that follows from another, of each element
   pub all-weaken : (f g : A → Bool) (xs : List A) → ((x : A) → f x ≡ true → g x ≡ true) → all f xs ≡ true → all g xs ≡ true

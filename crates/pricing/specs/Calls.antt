@@ -9,7 +9,7 @@ use borrow.Author.Tests.{eqb-true, eq-eqb}
 use Rattle.std.proofs.Math.ListN.{get_or}
 use Rattle.lists.specs.Tests.{both}
 use Rattle.lists.specs.Rows.{get_or-values}
-use Rattle.lists.specs.Sets.{all, all_get_d, mem}
+use Rattle.lists.specs.Sets.{all, all-get_or, mem}
 use Rattle.model.specs.Objects.{is_map, is_cell, hosted}
 use Rattle.model.specs.Directory.{shape_of}
 use Rattle.model.specs.Table.{Cell, cell_at, cells_of, cell_before, in_order, cell_size}
@@ -59,7 +59,7 @@ module _ {t : List ℕ} {count o first n : ℕ} (ordered : Ordered t count) (w :
       let there : get_or (of_object o (cells_of t count)) (i - first) d ≡ cell_at t (cell_size * i) =
       ap (λ (cs : List Cell). get_or cs (i - first) d) (sym w.rows) ∙ get_or-values (λ j. cell_at t (cell_size * j)) first n (i - first) d (omega arith)
       ∙ ap (λ (m : ℕ). cell_at t (cell_size * m)) e in
-      eqb-true (cell_at t (cell_size * i)).object o (ap (of_it o) (sym there) ∙ all_get_d (of_it o) (of_object o (cells_of t count)) (i - first) d (all-of-it o (cells_of t count)) (eq-eqb o o refl))
+      eqb-true (cell_at t (cell_size * i)).object o (ap (of_it o) (sym there) ∙ all-get_or (of_it o) (of_object o (cells_of t count)) (i - first) d (all-of-it o (cells_of t count)) (eq-eqb o o refl))
 
   keys-rise : (i j : ℕ) → first ≤ i → i < j → j < first + n → row_key t i < row_key t j
   unfolding cells_of in_order

@@ -201,7 +201,7 @@ module _ {key : ℕ → ℕ} {f : Form} {most p : ℕ} {old new : List ℕ} {s :
 
   -- ---- a new key: no children
 
-  module _ (empty : get_or old s 0 ≡ 0) (no_Kids : (b : ℕ) → b < 2 → kid b ≡ 0) where
+  module _ (empty : get_or old s 0 ≡ 0) (no-kids : (b : ℕ) → b < 2 → kid b ≡ 0) where
     grows : (k : ℕ) → way t k (t.depth k) ≡ s → (k ≡ key p → ⊥) → new_depth t s k ≡ t.depth k + 1
     unfolding new_depth
     grows k e d = simp (eq-eqb (way t k (t.depth k)) s e, ne_eqb k (key p) d)
@@ -247,7 +247,7 @@ module _ {key : ℕ → ℕ} {f : Form} {most p : ℕ} {old new : List ℕ} {s :
         go : (b : Bool) → eqb (way t k j) s ≡ b → get_or new (slot_of f (new_node t s) k (suc j)) 0 ≡ new_node t s k (suc j)
         go true e =
             let i = eqb-true (way t k j) s e in
-            on-hit k j lower i ∙ no_Kids (halves (f.rest k) j % 2) (omega arith) ∙ sym (node-past k (suc j) (omega (arith, last k j lower i)))
+            on-hit k j lower i ∙ no-kids (halves (f.rest k) j % 2) (omega arith) ∙ sym (node-past k (suc j) (omega (arith, last k j lower i)))
         go false e =
             let d = eqb-false (way t k j) s e in
             let i : j < t.depth k = inside k j h d in
