@@ -6,14 +6,14 @@ use Rattle.model.specs.Answers.{Refusal, Answer, done, refused, answer, refuse_a
 use Rattle.model.specs.Directory.{shape_of}
 use Rattle.laws.specs.Ruled.{Ruled}
 use Rattle.laws.proofs.Refusals.{refuse_at-none}
-use Rattle.directory.specs.Faults.{fault_in}
-use Rattle.directory.specs.declared.faults.FirstFault.{FirstFault}
+use Rattle.std.specs.Prelude.{Result, Ok, Err, Option as Told}
+use Rattle.codec.specs.Options.{option_in}
 use Rattle.answers.specs.declared.Refusal as code
-use Rattle.answers.specs.declared.Checked as checks
-use Rattle.answers.specs.declared.Checked.TheVariants as checked
-use Rattle.answers.specs.declared.Told.{Told}
-use Rattle.answers.specs.declared.Told.TheVariants.{Number, Nothing}
 use Rattle.answers.specs.declared.Refusal.TheVariants.{Frame, BadEntry, Request, Closed, Wide, Empty, NoCommit, Decided, Full, BadReplica, FalseRecord, Waiting, NoRoom, NoRoomAt, Behind, Directory, Astray, NoPrice}
+
+-- A call's result: a value, or why it is refused.
+abbrev pub Answered : Type 0 → Type 0
+Answered A = Result A code.Refusal
 
 abbrev pub refusal_in : code.Refusal → Refusal
 refusal_in Frame = record { number = 1; told = none }
@@ -35,13 +35,16 @@ refusal_in (Directory k) = record { number = 15; told = some k }
 refusal_in (Astray k) = record { number = 16; told = some k }
 refusal_in (NoPrice k) = record { number = 19; told = some k }
 
-abbrev pub checked_in : checks.Checked → Answer (Unit {0})
-checked_in checked.Done = done tt
-checked_in (checked.Refused r) = refused (refusal_in r)
+-- An answer, whose value is read by f.
+module _ {A B : Type 0} (f : A → B) where
+  abbrev pub answer_by : Answered A → Answer B
+  answer_by (Ok a) = done (f a)
+  answer_by (Err r) = refused (refusal_in r)
 
-abbrev pub told_in : Told → Option ℕ
-told_in (Number n) = some n
-told_in Nothing = none
+-- Done with nothing to tell, or refused.
+abbrev pub checked_in : Answered (Unit {0}) → Answer (Unit {0})
+checked_in (Ok _) = done tt
+checked_in (Err r) = refused (refusal_in r)
 
 -- ---- the directory's fault
 
@@ -54,21 +57,21 @@ pub refused-answer : {A : Type 0} (x : Option Refusal) (a : A) → refused_in (a
 refused-answer none a = refl
 refused-answer (some r) a = refl
 
-module _ (d : List ℕ) {f : FirstFault} (e : fault_in f ≡ (shape_of d).fault) where
+module _ (d : List ℕ) {f : Told ℕ} (e : option_in f ≡ (shape_of d).fault) where
   -- whatever the first fault is found to be, the answer is the model's
-  pub fault-told : (g : FirstFault) → f ≡ g → answer (refuse_at 15 (fault_in g)) (tt {0}) ≡ answer (bad_directory (shape_of d)) (tt {0})
-  fault-told g n = ap (λ (o : Option ℕ). answer (refuse_at 15 o) (tt {0})) (ap fault_in (sym n) ∙ e)
+  pub fault-told : (g : Told ℕ) → f ≡ g → answer (refuse_at 15 (option_in g)) (tt {0}) ≡ answer (bad_directory (shape_of d)) (tt {0})
+  fault-told g n = ap (λ (o : Option ℕ). answer (refuse_at 15 o) (tt {0})) (ap option_in (sym n) ∙ e)
 
-module _ (d : List ℕ) (c : checks.Checked) (e : checked_in c ≡ answer (bad_directory (shape_of d)) tt) where
+module _ (d : List ℕ) (c : Answered (Unit {0})) (e : checked_in c ≡ answer (bad_directory (shape_of d)) tt) where
   directed-told : refused_in (checked_in c) ≡ bad_directory (shape_of d)
   directed-told = ap refused_in e ∙ refused-answer (bad_directory (shape_of d)) (tt {0})
 
   -- where it is done, there is no fault
-  pub directed-done : c ≡ checked.Done → Ruled d
-  directed-done h = record { directed = refuse_at-none 15 (shape_of d).fault (sym directed-told ∙ ap (λ (x : checks.Checked). refused_in (checked_in x)) h) }
+  pub directed-done : (u : Unit {0}) → c ≡ Ok u → Ruled d
+  directed-done u h = record { directed = refuse_at-none 15 (shape_of d).fault (sym directed-told ∙ ap (λ (x : Answered (Unit {0})). refused_in (checked_in x)) h) }
 
-  pub directed-refused : (r : code.Refusal) → c ≡ checked.Refused r → bad_directory (shape_of d) ≡ some (refusal_in r)
-  directed-refused r h = sym directed-told ∙ ap (λ (x : checks.Checked). refused_in (checked_in x)) h
+  pub directed-refused : (r : code.Refusal) → c ≡ Err r → bad_directory (shape_of d) ≡ some (refusal_in r)
+  directed-refused r h = sym directed-told ∙ ap (λ (x : Answered (Unit {0})). refused_in (checked_in x)) h
 
 -- a directory within its rules refuses nothing
 pub ruled-passes : {d : List ℕ} → Ruled d → bad_directory (shape_of d) ≡ none

@@ -4,12 +4,12 @@
 ghost use Rattle.std.specs.Prelude.{◌≡◌};
 ghost use Rattle.model.specs.Answers.{answer, bad_directory};
 ghost use Rattle.model.specs.Directory.{shape_of};
-ghost use Rattle.answers.specs.Refusals.{refusal_in, checked_in, told_in};
+ghost use Rattle.codec.specs.Options.{option_in};
+ghost use Rattle.answers.specs.Refusals.{refusal_in, checked_in};
 
 use codec::names::Offset;
-use directory::faults::FirstFault;
 
-#[derive(Clone, Copy)]
+#[derive(Clone, Copy, Debug, PartialEq, Eq)]
 pub enum Refusal {
     Frame,
     BadEntry(Offset),
@@ -29,13 +29,6 @@ pub enum Refusal {
     Directory(u64),
     Astray(u64),
     NoPrice(u32),
-}
-
-// Done, or refused.
-#[derive(Clone, Copy)]
-pub enum Checked {
-    Done,
-    Refused(Refusal),
 }
 
 // The number of a refusal in the table.
@@ -64,45 +57,38 @@ pub fn number_of(r: Refusal) -> u32
     }
 }
 
-// What a refusal tells beside its number, or that it tells nothing.
-#[derive(Clone, Copy)]
-pub enum Told {
-    Number(u64),
-    Nothing,
-}
-
-pub fn told_of(r: Refusal) -> Told
-    ensures { told_in result ≡ (refusal_in r).told }
+// What a refusal tells beside its number, if it tells anything.
+pub fn told_of(r: Refusal) -> Option<u64>
+    ensures { option_in result ≡ (refusal_in r).told }
 {
     match r {
-        Refusal::Frame => Told::Nothing,
-        Refusal::BadEntry(o) => Told::Number(o.0),
-        Refusal::Request => Told::Nothing,
-        Refusal::Closed => Told::Nothing,
-        Refusal::Wide => Told::Nothing,
-        Refusal::Empty => Told::Nothing,
-        Refusal::NoCommit => Told::Nothing,
-        Refusal::Decided => Told::Nothing,
-        Refusal::Full => Told::Nothing,
-        Refusal::BadReplica => Told::Nothing,
-        Refusal::FalseRecord(o) => Told::Number(o.0),
-        Refusal::Waiting => Told::Nothing,
-        Refusal::NoRoom => Told::Nothing,
-        Refusal::NoRoomAt(o) => Told::Number(o.0),
-        Refusal::Behind => Told::Nothing,
-        Refusal::Directory(k) => Told::Number(k),
-        Refusal::Astray(k) => Told::Number(k),
-        Refusal::NoPrice(k) => Told::Number(k as u64),
+        Refusal::Frame => None,
+        Refusal::BadEntry(o) => Some(o.0),
+        Refusal::Request => None,
+        Refusal::Closed => None,
+        Refusal::Wide => None,
+        Refusal::Empty => None,
+        Refusal::NoCommit => None,
+        Refusal::Decided => None,
+        Refusal::Full => None,
+        Refusal::BadReplica => None,
+        Refusal::FalseRecord(o) => Some(o.0),
+        Refusal::Waiting => None,
+        Refusal::NoRoom => None,
+        Refusal::NoRoomAt(o) => Some(o.0),
+        Refusal::Behind => None,
+        Refusal::Directory(k) => Some(k),
+        Refusal::Astray(k) => Some(k),
+        Refusal::NoPrice(k) => Some(k as u64),
     }
 }
 
 // The directory is within its rules; else the first place at fault.
-pub fn directed(dir: &[u8]) -> Checked
+pub fn directed(dir: &[u8]) -> Result<(), Refusal>
     ensures { checked_in result ≡ answer (bad_directory (shape_of dir.now)) tt }
 {
-    let f = directory::faults::fault(dir);
-    match f {
-        FirstFault::None => Checked::Done,
-        FirstFault::At(k) => Checked::Refused(Refusal::Directory(k)),
+    match directory::faults::fault(dir) {
+        None => Ok(()),
+        Some(k) => Err(Refusal::Directory(k)),
     }
 }

@@ -18,16 +18,14 @@ use Rattle.model.specs.Claims.{header_objects_in, NumberGiven, ObjectsGiven, Ite
 use Rattle.claims.proofs.Handed.{demand2-for}
 use Rattle.codec.specs.Eight.{slot_size, bad_frame, in_log}
 use Rattle.entries.specs.declared.calls.Info.{Info}
-use Rattle.entries.specs.declared.calls.Found as finds
-use Rattle.entries.specs.declared.calls.Found.TheVariants as found
 use Rattle.entries.specs.Answers.{found_in, info_of}
-use Rattle.answers.specs.Refusals.{checked_in}
-use Rattle.append.specs.declared.write.Appended.TheVariants as appended
+use Rattle.answers.specs.Refusals.{checked_in, Answered}
 use Rattle.append.specs.Answers.{tail_in}
 use Rattle.calls.specs.Values.{AppendCall, seen, Grows, left_by, last_log, EntryCall, ItemsCall, part}
 use Rattle.calls.specs.Claims.{lent_at, CallsAccept, CallsWrite, CallsKeepGood, CallsReadBack, CallsItemsPlace, CallsSameBytes}
 use Rattle.calls.proofs.Promises.{append-promise, check-promise, entry-promise, items-promise, items-place}
 use Rattle.calls.proofs.Histories.{lent, requests, left_after, left_grown, history, whole-left}
+use Rattle.std.specs.Prelude.{Ok, Err}
 
 -- ---- accepted
 
@@ -40,7 +38,7 @@ calls-accept c =
     (λ h. e.0 (answered c ∙ h), λ u. sym (answered c) ∙ e.1 u)
 
 -- an accepted append over the log at l, which is the one it was given, with directory dir: what the model says of it, in the words of the values
-module _ (dir : List ℕ) (l : Lent) (c : AppendCall) (t : ℕ) (of : (seen c).dir ≡ dir) (given : lent_at c ≡ l) (d : (seen c).answer ≡ appended.Tail t) where
+module _ (dir : List ℕ) (l : Lent) (c : AppendCall) (t : ℕ) (of : (seen c).dir ≡ dir) (given : lent_at c ≡ l) (d : (seen c).answer ≡ Ok t) where
   pub accepted-so : Accepted (shape_of dir) l (seen c).request
   accepted-so =
       ap (λ (x : Lent). is_refused (model.append (shape_of dir) x.bytes x.tail (seen c).request).new_tail) (sym given)
@@ -73,13 +71,13 @@ calls-write c t d =
 -- ---- read back
 
 -- an entry call that is done tells an entry
-told : (x : finds.Found) (i : reading.Info) → found_in x ≡ done i → (m : Info) × (x ≡ found.Entry m) × (i ≡ info_of m)
-told (found.Entry m) i e = (m, refl, sym (ap (in_done (info_of m)) e))
+told : (x : Answered Info) (i : reading.Info) → found_in x ≡ done i → (m : Info) × (x ≡ Ok m) × (i ≡ info_of m)
+told (Ok m) i e = (m, refl, sym (ap (in_done (info_of m)) e))
   where
     in_done : reading.Info → Answer reading.Info → reading.Info
     in_done w (done z) = z
     in_done w (refused r) = w
-told (found.Refused r) i e = clash true refl (ap is_refused e)
+told (Err r) i e = clash true refl (ap is_refused e)
 
 pub calls-read-back : CallsReadBack
 calls-read-back c t d later g e i =
@@ -106,7 +104,7 @@ calls-items-place d log o c = items-place d log o c
 
 -- ---- the same bytes
 
-module _ (dir : List ℕ) (l : Lent) (c : AppendCall) (t : ℕ) (of : (seen c).dir ≡ dir) (given : lent_at c ≡ l) (d : (seen c).answer ≡ appended.Tail t) where
+module _ (dir : List ℕ) (l : Lent) (c : AppendCall) (t : ℕ) (of : (seen c).dir ≡ dir) (given : lent_at c ≡ l) (d : (seen c).answer ≡ Ok t) where
   at_tail : (seen c).tail ≡ l.tail
   at_tail = ap (λ (x : Lent). x.tail) given
 

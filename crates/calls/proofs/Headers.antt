@@ -22,10 +22,10 @@ use Rattle.laws.proofs.Appends.{frame-few}
 use Rattle.claims.proofs.Handed.{tells-where-for, past-is-bad-for}
 use Rattle.codec.specs.Eight.{bad_frame, in_log}
 use Rattle.answers.specs.Refusals.{checked_in}
-use Rattle.answers.specs.declared.Checked.TheVariants as checked
 use Rattle.calls.specs.Values.{CheckCall}
 use Rattle.calls.specs.Headers.{CallsTell, CallsFindPast}
 use Rattle.calls.proofs.Promises.{check-promise}
+use Rattle.std.specs.Prelude.{Ok}
 
 -- an answer that is done comes from no refusal
 answered : (x : Option Refusal) → answer x (tt {0}) ≡ done tt → x ≡ none
@@ -38,7 +38,7 @@ tail-few log f =
     let used = ltb-false (slots the_layout log) log.tail (or_r (not (eqb (log.size % the_layout.slot_size) 0) || ltb most_slots (slots the_layout log)) (ltb (slots the_layout log) log.tail) f) in
     omega (arith, used, frame-few the_layout log f)
 
-module _ (d : List ℕ) (log : Lent) (c : CheckCall d log) (e : c.call.answer ≡ checked.Done) where
+module _ (d : List ℕ) (log : Lent) (c : CheckCall d log) (e : c.call.answer ≡ (Ok tt)) where
   tests : AllPass (bad_directory (shape_of d) ∷ refuse 1 (bad_frame (in_log log)) ∷ refuse_at 2 (lowest_bad (shape_of d) (in_log log)) ∷ [])
   unfolding reading.check
   tests =

@@ -13,25 +13,24 @@ use Rattle.model.specs.Claims.{OpenedAt}
 use Rattle.claims.proofs.Handed.{opens-at-for, opens-wherever-for}
 use Rattle.claims.proofs.Opened.{opens-fresh}
 use Rattle.codec.specs.Eight.{in_log}
-use Rattle.answers.specs.Refusals.{checked_in}
+use Rattle.answers.specs.Refusals.{checked_in, Answered}
 use Rattle.records.specs.declared.Record.{Record}
 use Rattle.records.specs.Record.{replica_in}
-use Rattle.replica.specs.declared.opening.Opened as opens
-use Rattle.replica.specs.declared.opening.Opened.TheVariants as opened
 use Rattle.replica.specs.Answers.{opened_in}
 use Rattle.calls.specs.Claims.{CallsOpen}
 use Rattle.calls.proofs.Promises.{fresh-promise, open-promise}
+use Rattle.std.specs.Prelude.{Ok, Err}
 
 abbrev in_done : Replica → Answer Replica → Replica
 in_done r (done x) = x
 in_done r (refused x) = r
 
 -- an answer that reads as done with this record is that record
-is-opened : (x : opens.Opened) (r : Record) → opened_in x ≡ done (replica_in r) → x ≡ opened.Replica r
-is-opened (opened.Replica y) r e =
+is-opened : (x : Answered Record) (r : Record) → opened_in x ≡ done (replica_in r) → x ≡ Ok r
+is-opened (Ok y) r e =
     let same : replica_in y ≡ replica_in r = ap (in_done (replica_in y)) e in
-    λ j. opened.Replica (record { hosted = (same j).hosting; position = (same j).position; count = (same j).count })
-is-opened (opened.Refused y) r e = clash true refl (ap is_refused e)
+    λ j. Ok (record { hosted = (same j).hosting; position = (same j).position; count = (same j).count })
+is-opened (Err y) r e = clash true refl (ap is_refused e)
 
 pub calls-open : CallsOpen
 calls-open = record {

@@ -11,7 +11,6 @@ use Rattle.model.specs.OwedClaims.{Owes, Answers, Paid}
 use Rattle.claims.proofs.Handed.{none-waits-for, owes-exactly-for, pays-for}
 use Rattle.codec.specs.Eight.{in_log}
 use Rattle.entries.specs.Answers.{owed_in}
-use Rattle.append.specs.declared.write.Appended.TheVariants as appended
 use Rattle.records.specs.Record.{replica_in}
 use Rattle.calls.specs.Values.{AppendCall, seen, Grows, left_by, stop_of}
 use Rattle.calls.specs.Claims.{lent_at}
@@ -19,6 +18,7 @@ use Rattle.calls.specs.Owed.{CallsNoneWait, CallsOweExactly, left_at, CallsPay}
 use Rattle.calls.proofs.Promises.{owed-promise, play-promise}
 use Rattle.calls.proofs.Histories.{requests}
 use Rattle.calls.proofs.Appends.{accepted-so, after-so, later-so}
+use Rattle.std.specs.Prelude.{Ok}
 
 pub calls-none-wait : CallsNoneWait
 calls-none-wait d log sets c e k m p h =
@@ -30,7 +30,7 @@ calls-owe-exactly d log sets c = subst (Answers (shape_of d) log sets) (sym (owe
 
 -- ---- a decision pays
 
-module _ (c : AppendCall) (o v t : ℕ) (e : (seen c).request ≡ decides o v) (d : (seen c).answer ≡ appended.Tail t) (sets : List ℕ) where
+module _ (c : AppendCall) (o v t : ℕ) (e : (seen c).request ≡ decides o v) (d : (seen c).answer ≡ Ok t) (sets : List ℕ) where
   taken : Accepted (shape_of (seen c).dir) (lent_at c) (decides o v)
   taken = ap (λ (q : model.Request). is_refused (append_to (shape_of (seen c).dir) (lent_at c) q).new_tail) (sym e) ∙ accepted-so (seen c).dir (lent_at c) c t refl refl d
 

@@ -15,13 +15,14 @@ use Rattle.answers.specs.Refusals.{checked_in}
 use Rattle.records.specs.declared.Record.{Record}
 use Rattle.records.specs.Record.{replica_in}
 use Rattle.pricing.specs.Walks.{priced_in}
-use Rattle.pricing.specs.declared.walk.Priced.{Priced}
-use Rattle.pricing.specs.declared.walk.Priced.TheVariants.{Total, Refused}
 use Rattle.calls.specs.Values.{scratch, Kept, carry}
 use Rattle.calls.specs.Prices.{PriceCall, Answered, CallsPriceOfReadings, CallsPriceOfRun, CallsPriceFits, CallsPriceExactly, CallsLowestKey}
 use Rattle.calls.proofs.Promises.{read-promise}
 use Rattle.calls.proofs.Histories.{history, ran-so}
 use Rattle.calls.proofs.Behave.{passed, opened-so, plays-so}
+use Rattle.std.specs.Prelude.{Result, Ok, Err}
+use Rattle.answers.specs.declared.Refusal as code
+use Rattle.pricing.specs.declared.lines.Sum.{Sum}
 
 module _ (d : List ℕ) (k : Kept) (o : ℕ) (s : List ℕ) (c : PriceCall d k o s) where
   price-promise : priced_in c.call.answer ≡ price (shape_of d) (replica_in k.replica) k.table o s
@@ -44,9 +45,9 @@ module _ (d : List ℕ) (k : Kept) (o : ℕ) (s : List ℕ) (c : PriceCall d k o
       number (done n) = n
       number (refused r) = 0
 
-      go : (x : Priced) → c.call.answer ≡ x → Answered c t
-      go (Total high low) i = record { high = high; low = low; answer = i; number = ap number (ap priced_in (sym i) ∙ price-promise ∙ e) }
-      go (Refused r) i = clash (is_refused (priced_in (Refused r))) refl (ap is_refused (ap priced_in (sym i) ∙ price-promise ∙ e))
+      go : (x : Result Sum code.Refusal) → c.call.answer ≡ x → Answered c t
+      go (Ok total) i = record { high = total.high; low = total.low; answer = i; number = ap number (ap priced_in (sym i) ∙ price-promise ∙ e) }
+      go (Err r) i = clash (is_refused (priced_in (Err r))) refl (ap is_refused (ap priced_in (sym i) ∙ price-promise ∙ e))
 
 pub calls-price-of-readings : CallsPriceOfReadings
 calls-price-of-readings d k o s c t a =

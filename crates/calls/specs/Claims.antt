@@ -1,5 +1,5 @@
 -- The demands as types over calls as values: what calls answered and left is all that they name, beside the conditions and the run.
-use Rattle.std.specs.Prelude.{ℕ, ◌+◌, ◌*◌, ◌<◌, ◌≤◌, ◌≡◌, ◌↔◌, true, false, ltb, length, take, drop}
+use Rattle.std.specs.Prelude.{ℕ, ◌+◌, ◌*◌, ◌<◌, ◌≤◌, ◌≡◌, ◌↔◌, true, false, ltb, length, take, drop, Ok, Err}
 use mathlib.Core.List.{List, ◌∷◌, ◌++◌, Memᴰ}
 use Rattle.std.proofs.Math.Option.{Option}
 use Rattle.lists.specs.Sets.{mem, ascending}
@@ -16,16 +16,12 @@ use Rattle.model.specs.Histories.{Lent, is_refused, cells_written}
 use Rattle.model.specs.Terms.{Directed, Listed, GoodFrame, AllGood, AbortsIn, Concerns, Blocked, Fit, Playable, Ended, Makes, Unstopped}
 use Rattle.model.specs.Claims.{Bytes, Waiting, done_with, kind_given, NumberGiven, ObjectsGiven, ItemsGiven, first_given, second_given, header_objects_in, Alone, AbortsAlone, Audits, OpenedAt}
 use Rattle.codec.specs.Eight.{slot_size, in_log}
-use Rattle.answers.specs.declared.Checked.TheVariants as checked
 use Rattle.entries.specs.declared.calls.Info.{Info}
-use Rattle.entries.specs.declared.calls.Found.TheVariants as found
 use Rattle.entries.specs.Answers.{info_of, further}
 use Rattle.answers.specs.declared.Refusal.TheVariants as refusal
 use Rattle.codec.specs.declared.names.Offset.{Offset}
-use Rattle.append.specs.declared.write.Appended.TheVariants as appended
 use Rattle.append.specs.Answers.{tail_in}
 use Rattle.records.specs.Record.{replica_in}
-use Rattle.replica.specs.declared.opening.Opened.TheVariants as opened
 use Rattle.replica.specs.Answers.{read_in}
 use Rattle.replica.proofs.opening.open_fresh.Kinds as fresh-kinds
 use Rattle.replica.proofs.opening.open_fresh.Reads as fresh-reads
@@ -75,11 +71,11 @@ pub record Wrote (c : AppendCall) (t : ℕ) : Type 0 where
   pub rest : drop (slot_size * t) (seen c).left ≡ drop (slot_size * t) (seen c).bytes
 
 abbrev pub CallsWrite : Type 0
-CallsWrite = (c : AppendCall) (t : ℕ) → (seen c).answer ≡ appended.Tail t → Wrote c t
+CallsWrite = (c : AppendCall) (t : ℕ) → (seen c).answer ≡ Ok t → Wrote c t
 
 -- the check of the log that a list of appends left never tells a bad entry
 abbrev pub CallsKeepGood : Type 0
-CallsKeepGood = (a : Appends) (c : CheckCall a.dir (last_log a)) (o : Offset) → c.call.answer ≡ checked.Refused (refusal.BadEntry o) → ⊥
+CallsKeepGood = (a : Appends) (c : CheckCall a.dir (last_log a)) (o : Offset) → c.call.answer ≡ Err (refusal.BadEntry o) → ⊥
 
 -- what was given, as the entry call and the item list tell it
 pub record Returns (c : AppendCall) (answer : Info) (handed : List ℕ) : Type 0 where
@@ -93,10 +89,10 @@ pub record Returns (c : AppendCall) (answer : Info) (handed : List ℕ) : Type 0
 
 -- what was appended reads back (17.3)
 abbrev pub CallsReadBack : Type 0
-CallsReadBack = (c : AppendCall) (t : ℕ) → (seen c).answer ≡ appended.Tail t
+CallsReadBack = (c : AppendCall) (t : ℕ) → (seen c).answer ≡ Ok t
     → (later : List AppendCall) → Grows (seen c).dir (seen c).left t later
     → (e : EntryCall (seen c).dir (left_by (seen c).left t later) (seen c).tail) (i : ItemsCall (seen c).dir (left_by (seen c).left t later) (seen c).tail)
-    → (answer : Info) × (e.call.answer ≡ found.Entry answer) × Returns c answer (part i)
+    → (answer : Info) × (e.call.answer ≡ Ok answer) × Returns c answer (part i)
 
 -- the list of items is handed out where it stands in the lent log
 abbrev pub CallsItemsPlace : Type 0
@@ -104,10 +100,10 @@ CallsItemsPlace = (d : List ℕ) (log : Lent) (o : ℕ) (c : ItemsCall d log o) 
 
 -- entries that read alike are the same bytes (17.4)
 abbrev pub CallsSameBytes : Type 0
-CallsSameBytes = (c d : AppendCall) (t u : ℕ) → (seen c).dir ≡ (seen d).dir → lent_at c ≡ lent_at d → (seen c).answer ≡ appended.Tail t → (seen d).answer ≡ appended.Tail u
+CallsSameBytes = (c d : AppendCall) (t u : ℕ) → (seen c).dir ≡ (seen d).dir → lent_at c ≡ lent_at d → (seen c).answer ≡ Ok t → (seen d).answer ≡ Ok u
     → (e : EntryCall (seen c).dir (record { bytes = (seen c).left; tail = t }) (seen c).tail) (i : ItemsCall (seen c).dir (record { bytes = (seen c).left; tail = t }) (seen c).tail)
     → (f : EntryCall (seen d).dir (record { bytes = (seen d).left; tail = u }) (seen d).tail) (j : ItemsCall (seen d).dir (record { bytes = (seen d).left; tail = u }) (seen d).tail)
-    → (m n : Info) → e.call.answer ≡ found.Entry m → f.call.answer ≡ found.Entry n
+    → (m n : Info) → e.call.answer ≡ Ok m → f.call.answer ≡ Ok n
     → (info_of m).kind ≡ (info_of n).kind → (info_of m).number ≡ (info_of n).number → header_objects_in (info_of m) ≡ header_objects_in (info_of n)
     → (info_of m).first ≡ (info_of n).first → (info_of m).second ≡ (info_of n).second
     → part i ≡ part j → (seen c).left ≡ (seen d).left
@@ -124,12 +120,12 @@ CallsAudit = (a : Appends) (c : AuditCall a.dir (last_log a)) → Directed (shap
 
 -- on any log
 abbrev pub CallsNeverWait : Type 0
-CallsNeverWait = (d : List ℕ) (log : Lent) (c : AuditCall d log) → c.call.answer.answer ≡ checked.Refused refusal.Waiting → ⊥
+CallsNeverWait = (d : List ℕ) (log : Lent) (c : AuditCall d log) → c.call.answer.answer ≡ Err refusal.Waiting → ⊥
 
 pub record CallsOpen : Type 0 where
   pub fresh : (c : Call fresh-kinds.ps fresh-kinds.r fresh-reads.Learnt) → Directed (shape_of c.given.0.now) → (c.given.1.0 ≡ 0 → ⊥) → Listed (shape_of c.given.0.now) c.given.1.0
-      → c.answer ≡ opened.Replica (record { hosted = c.given.1.0; position = 0; count = 0 })
-  pub at_checkpoint : (d : List ℕ) (log : Lent) (c : OpenCall d log) → c.call.answer.answer ≡ checked.Done
+      → c.answer ≡ Ok (record { hosted = c.given.1.0; position = 0; count = 0 })
+  pub at_checkpoint : (d : List ℕ) (log : Lent) (c : OpenCall d log) → c.call.answer.answer ≡ (Ok tt)
       → OpenedAt (shape_of d) (in_log log) c.call.given.1.1.1.0 c.call.given.1.1.1.1.0.now (open_left c)
   pub wherever : (d : List ℕ) (log : Lent) (c : OpenCall d log) (x : ℕ) (cs : List Saved) → Directed (shape_of d) → GoodFrame (shape_of d) log → AllGood (shape_of d) (in_log log)
       → c.call.given.1.1.1.0 < log.tail → (in_log log).entry c.call.given.1.1.1.0 ≡ checkpoint-at x cs
@@ -172,5 +168,5 @@ pub record Behaves (a : Appends) (k : Kept) : Type 0 where
       → Crosses a k p n c
 
 abbrev pub CallsBehave : Type 0
-CallsBehave = (a : Appends) (audit : AuditCall a.dir (last_log a)) → audit.call.answer.answer ≡ checked.Done
+CallsBehave = (a : Appends) (audit : AuditCall a.dir (last_log a)) → audit.call.answer.answer ≡ (Ok tt)
     → (k : Kept) → Opens a k → (last : Kept) → Plays a k last → Behaves a last

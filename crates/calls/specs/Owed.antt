@@ -1,6 +1,6 @@
 -- Decisions owed, as types over calls as values: what an owed call answers, that no declared replica waits where it answered nothing, and that
 -- an accepted decision pays.
-use Rattle.std.specs.Prelude.{ℕ, ◌<◌, ◌≡◌}
+use Rattle.std.specs.Prelude.{ℕ, ◌<◌, ◌≡◌, Ok, None}
 use mathlib.Core.List.{List, Memᴰ}
 use Rattle.std.proofs.Math.Option.{some}
 use Rattle.model.specs.Directory.{shape_of}
@@ -10,9 +10,7 @@ use Rattle.model.specs.Replica.{plainly}
 use Rattle.model.specs.Histories.{Lent}
 use Rattle.model.specs.OwedClaims.{Owes, Answers}
 use Rattle.codec.specs.Eight.{in_log}
-use Rattle.entries.specs.declared.owing.Owed.TheVariants as owing
 use Rattle.entries.specs.Answers.{owed_in}
-use Rattle.append.specs.declared.write.Appended.TheVariants as appended
 use Rattle.records.specs.Record.{replica_in}
 use Rattle.calls.specs.Values.{AppendCall, seen, Grows, left_by, OwedCall, Kept, PlayOn, play_left}
 use Rattle.calls.specs.Claims.{lent_at}
@@ -20,7 +18,7 @@ use Rattle.calls.specs.Claims.{lent_at}
 -- where an owed call answered nothing, no play of a replica of a declared set waits: by value or in place, with the same directory, on the same
 -- log at the same tail, from any record, with any table, to any stop
 abbrev pub CallsNoneWait : Type 0
-CallsNoneWait = (d : List ℕ) (log : Lent) (sets : List ℕ) (c : OwedCall d log sets) → c.call.answer ≡ owing.Nothing
+CallsNoneWait = (d : List ℕ) (log : Lent) (sets : List ℕ) (c : OwedCall d log sets) → c.call.answer ≡ (Ok None)
     → (k : Kept) → Memᴰ (replica_in k.replica).hosting sets → (p : PlayOn d log k) → (play_left p).answer ≡ plainly 12 → ⊥
 
 -- an owed call answers what its words say
@@ -41,4 +39,4 @@ pub record CallsPaid (c : AppendCall) (o t : ℕ) (sets : List ℕ) : Type 0 whe
       → (q < (seen c).tail) × Owes (shape_of (seen c).dir) (in_log (lent_at c)) sets q
 
 abbrev pub CallsPay : Type 0
-CallsPay = (c : AppendCall) (o v t : ℕ) → (seen c).request ≡ decides o v → (seen c).answer ≡ appended.Tail t → (sets : List ℕ) → CallsPaid c o t sets
+CallsPay = (c : AppendCall) (o v t : ℕ) → (seen c).request ≡ decides o v → (seen c).answer ≡ Ok t → (sets : List ℕ) → CallsPaid c o t sets

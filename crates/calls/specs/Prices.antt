@@ -1,16 +1,14 @@
 -- Prices, as types over calls as values: the total is that of what reading calls answer, and for a replica of demand 3 that of the run's cells;
 -- it fits; which calls are done; and the key that 19 tells.
-use Rattle.std.specs.Prelude.{ℕ, ◌+◌, ◌*◌, ◌^◌, ◌≤◌, ◌≡◌, ◌↔◌, List}
+use Rattle.std.specs.Prelude.{ℕ, ◌+◌, ◌*◌, ◌^◌, ◌≤◌, ◌≡◌, ◌↔◌, List, Ok}
 use Rattle.model.specs.Directory.{shape_of}
 use Rattle.model.specs.Answers.{done, refused}
 use Rattle.model.specs.Pricing.{prices_in}
 use Rattle.model.specs.Claims.{Bytes}
 use Rattle.model.specs.PriceClaims.{MapOf, SumOf, PricedBy, TwoParts, PriceAllowed, LowestUnpriced, no_price}
-use Rattle.answers.specs.declared.Checked.TheVariants as checked
 use Rattle.records.specs.Record.{replica_in}
 use Rattle.replica.specs.Answers.{read_in}
 use Rattle.pricing.specs.Walks.{priced_in}
-use Rattle.pricing.specs.declared.walk.Priced.TheVariants.{Total}
 use Rattle.pricing.proofs.call.price.Kinds as price-kinds
 use Rattle.pricing.proofs.call.price.Reads as price-reads
 use Rattle.calls.specs.Values.{Call, Appends, last_log, ran, AuditCall, Kept, Opens, Plays, ReadCall}
@@ -28,7 +26,7 @@ pub record PriceCall (d : List ℕ) (k : Kept) (o : ℕ) (s : List ℕ) : Type 0
 pub record Answered {d : List ℕ} {k : Kept} {o : ℕ} {s : List ℕ} (c : PriceCall d k o s) (t : ℕ) : Type 0 where
   pub high : ℕ
   pub low : ℕ
-  pub answer : c.call.answer ≡ Total high low
+  pub answer : c.call.answer ≡ Ok (record { high = high; low = low })
   pub number : high * 2 ^ 64 + low ≡ t
 
 -- the total is the sum over the keys of the lines of what readings of the same replica answer
@@ -45,7 +43,7 @@ pub record AsRun (a : Appends) (k : Kept) (o : ℕ) (s : List ℕ) (t : ℕ) : T
   pub lines : SumOf (prices_in s) map.object.highest ((ran a k.replica.position).cells o) t
 
 abbrev pub CallsPriceOfRun : Type 0
-CallsPriceOfRun = (a : Appends) (audit : AuditCall a.dir (last_log a)) → audit.call.answer.answer ≡ checked.Done
+CallsPriceOfRun = (a : Appends) (audit : AuditCall a.dir (last_log a)) → audit.call.answer.answer ≡ (Ok tt)
     → (k : Kept) → Opens a k → (last : Kept) → Plays a k last
     → (o : ℕ) (s : List ℕ) (c : PriceCall a.dir last o s) (t : ℕ) → Answered c t → AsRun a last o s t
 

@@ -1,6 +1,6 @@
 -- Versions in read sets, as types over calls as values: which commits are answered 16, and what it tells; that an accepted commit has no
 -- read astray; and that what a replica shows never is.
-use Rattle.std.specs.Prelude.{ℕ, ◌≤◌, ◌≡◌, ◌↔◌, length}
+use Rattle.std.specs.Prelude.{ℕ, ◌≤◌, ◌≡◌, ◌↔◌, length, Ok}
 use mathlib.Core.List.{List, ◌∷◌, ◌++◌, Memᴰ}
 use Rattle.std.proofs.Math.Option.{Option, some}
 use Rattle.model.specs.Directory.{shape_of}
@@ -11,8 +11,6 @@ use Rattle.model.specs.Append.{commits, reads_given}
 use Rattle.model.specs.Terms.{Pointed}
 use Rattle.model.specs.ReadClaims.{FirstAstray, read_of}
 use Rattle.codec.specs.Eight.{in_log}
-use Rattle.answers.specs.declared.Checked.TheVariants as checked
-use Rattle.append.specs.declared.write.Appended.TheVariants as appended
 use Rattle.append.specs.Answers.{tail_in}
 use Rattle.replica.specs.Answers.{read_in}
 use Rattle.calls.specs.Values.{AppendCall, seen, Grows, left_by, Appends, last_log, log_after, AuditCall, Kept, Opens, Plays, ReadCall}
@@ -25,7 +23,7 @@ CallsTellAstray = (c : AppendCall) (n : ℕ) (items : List ℕ) (first second i 
 
 -- each read of an accepted commit points to an entry that writes its cell, then and after any further appends
 abbrev pub CallsAstrayNone : Type 0
-CallsAstrayNone = (c : AppendCall) (n : ℕ) (items : List ℕ) (first second t : ℕ) → (seen c).request ≡ commits n items first second → (seen c).answer ≡ appended.Tail t
+CallsAstrayNone = (c : AppendCall) (n : ℕ) (items : List ℕ) (first second t : ℕ) → (seen c).request ≡ commits n items first second → (seen c).answer ≡ Ok t
     → (later : List AppendCall) → Grows (seen c).dir (seen c).left t later
     → (x : Read) → Memᴰ x (reads_given items) → Pointed (in_log (left_by (seen c).left t later)) x
 
@@ -43,6 +41,6 @@ pub record Shown (a : Appends) (k : Kept) (o key : ℕ) (held : Option Held) : T
 
 -- every replica of demand 3 shows such versions
 abbrev pub CallsShownPasses : Type 0
-CallsShownPasses = (a : Appends) (audit : AuditCall a.dir (last_log a)) → audit.call.answer.answer ≡ checked.Done
+CallsShownPasses = (a : Appends) (audit : AuditCall a.dir (last_log a)) → audit.call.answer.answer ≡ (Ok tt)
     → (k : Kept) → Opens a k → (last : Kept) → Plays a k last
     → (o key : ℕ) (r : ReadCall a.dir last o key) (held : Option Held) → read_in r.call.answer ≡ done held → Shown a last o key held

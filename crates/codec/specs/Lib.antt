@@ -3,3 +3,5 @@ pub mod Marks
 pub mod Table
 pub mod Same
 pub mod Eight
+pub mod Options
+pub mod Counted

@@ -8,13 +8,13 @@ use crate::names::{ObjectId, Version};
 // How many keys there are: a key has four bytes.
 const KEYS: u64 = 4294967296;
 
-#[derive(Clone, Copy)]
+#[derive(Clone, Copy, Debug, PartialEq, Eq)]
 pub enum Content {
     Removed,
     Value(u32),
 }
 
-#[derive(Clone, Copy)]
+#[derive(Clone, Copy, Debug, PartialEq, Eq)]
 pub struct Written {
     pub version: Version,
     pub content: Content,

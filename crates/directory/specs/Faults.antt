@@ -7,12 +7,6 @@ use Rattle.lists.specs.Bytes.{be_at}
 use Rattle.lists.specs.First.{Seeking, seeking-below}
 use Rattle.model.specs.Directory.{record_size, mark_object, most_records, id_at, ok_kind_and_key, ok_record, follows, at_fault, places, shape_of, fault_of}
 use Rattle.laws.proofs.Refusals.{none-lowest, some-lowest}
-use Rattle.directory.specs.declared.faults.FirstFault.{FirstFault}
-use Rattle.directory.specs.declared.faults.FirstFault.TheVariants.{None, At}
-
-abbrev pub fault_in : FirstFault → Option ℕ
-fault_in None = none
-fault_in (At k) = some k
 
 -- ---- a record by itself
 

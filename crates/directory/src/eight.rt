@@ -44,9 +44,7 @@ pub fn write_eight(d: &mut [u8])
     requires { length d.old ≡ record_size * length the_objects }
     ensures { d.new ≡ directory_of the_objects }
 {
-    let mut k = 0;
-    while k < EIGHT {
+    for k in 0..EIGHT {
         put_record(d, RECORD_SIZE * k, OBJECTS[k]);
-        k += 1;
     }
 }

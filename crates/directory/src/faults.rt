@@ -1,7 +1,8 @@
 // The first place at fault in a directory (1.11, 1.12): each place is judged by itself and by the id before it.
 ghost use Rattle.std.specs.Prelude.{◌≡◌, ◌+◌, ◌*◌, ◌≤◌, length};
 ghost use Rattle.model.specs.Directory.{record_size, ok_kind_and_key, ok_record, follows, at_fault, places, shape_of};
-ghost use Rattle.directory.specs.Faults.{ok_frame, ok_id, fault_in};
+ghost use Rattle.codec.specs.Options.{option_in};
+ghost use Rattle.directory.specs.Faults.{ok_frame, ok_id};
 
 use crate::layout::{
     HIGHEST_BEGINS, ID_BEGINS, IDS_END, KEYS_END, KIND_BEGINS, LAST_BEGINS, MAP, MARK_OBJECT,
@@ -102,24 +103,15 @@ fn judged(dir: &[u8]) -> usize
     (dir.len() - 1) / RECORD_SIZE + 1
 }
 
-// No place at fault, or the first.
-#[derive(Clone, Copy)]
-pub enum FirstFault {
-    None,
-    At(u64),
-}
-
-// The first place at fault. Place 64 is always one, so that no more than 65 are looked at.
-pub fn fault(dir: &[u8]) -> FirstFault
-    ensures { fault_in result ≡ (shape_of dir.now).fault }
+// The first place at fault, if there is one. Place 64 is always one, so that no more than 65 are looked at.
+pub fn fault(dir: &[u8]) -> Option<u64>
+    ensures { option_in result ≡ (shape_of dir.now).fault }
 {
     let n = judged(dir);
-    let mut k = 0;
-    while k < n {
+    for k in 0..n {
         if is_at_fault(dir, k) {
-            return FirstFault::At(k as u64);
+            return Some(k as u64);
         }
-        k += 1;
     }
-    FirstFault::None
+    None
 }

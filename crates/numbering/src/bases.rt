@@ -13,11 +13,9 @@ pub fn fill(dir: &[u8], bases: &mut [u64]) -> usize
 {
     let n = directory::places::count(dir);
     let mut sum: u64 = 0;
-    let mut k = 0;
-    while k < n {
+    for k in 0..n {
         bases[k] = sum;
         sum = sum + directory::places::highest_at(dir, k) as u64 + 1;
-        k += 1;
     }
     sum as usize
 }

@@ -13,5 +13,5 @@ pub eight-ruled : Ruled (directory_of the_objects)
 eight-ruled = record { directed = ap (λ (sh : Shape). sh.fault) eight-shape }
 
 -- so are bytes that are equal to it
-pub same-ruled : {d : List ℕ} → d ≡ directory_of the_objects → Ruled d
-same-ruled e = record { directed = ap (λ (s : List ℕ). (shape_of s).fault) e ∙ eight-ruled.directed }
+pub same_ruled : {d : List ℕ} → d ≡ directory_of the_objects → Ruled d
+same_ruled e = record { directed = ap (λ (s : List ℕ). (shape_of s).fault) e ∙ eight-ruled.directed }

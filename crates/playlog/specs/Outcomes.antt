@@ -1,12 +1,11 @@
 -- What the program does at a commit record: the replica that it plays to it; the test of each read, of which the first that fails tells
 -- the outcome, and of each number named; and the number that it keeps where the transaction commits.
-use Rattle.std.specs.Prelude.{◌≡◌, refl, Bool, true, false, cond, not, ◌&&◌, List, [], ◌∷◌, ℕ, ◌+◌, ◌*◌, ◌/◌, ◌≤◌, ◌<◌, eqb, length, set}
-use Rattle.std.proofs.Common.{ap, sym, ◌∙◌}
+use Rattle.std.specs.Prelude.{◌≡◌, refl, Bool, true, false, cond, not, ◌&&◌, List, [], ◌∷◌, ℕ, zero, suc, ◌+◌, ◌*◌, ◌≤◌, ◌<◌, eqb, length, set}
+use Rattle.std.proofs.Common.{ap, ◌∙◌, add-one}
+use Rattle.std.specs.List.{list_all, range_with_len}
 use Rattle.lists.specs.Sets.{all, mem, within}
 use Rattle.lists.specs.Tests.{and-true}
 use Rattle.lists.specs.Rows.{values}
-use Rattle.lists.specs.First.{Seeking}
-use Rattle.lists.specs.Every.{failing, every-not, every-all}
 use Rattle.model.specs.Directory.{shape_of}
 use Rattle.model.specs.Entries.{Read, Log, unless_zero, named}
 use Rattle.model.specs.Slot.{read_at, item_size}
@@ -29,10 +28,10 @@ use Rattle.slot.specs.declared.fields.Read as code
 abbrev pub current : Holds → Read → Bool
 current cells r = eqb (version_in (cells r.object r.key)) r.version
 
-pub read-current : (cells : Holds) (s : List ℕ) (i : ℕ) (r : code.Read) {v : ℕ} → r ≡ read_in s i → v ≡ version_in (cells r.object.0 r.key)
+pub read_current : (cells : Holds) (s : List ℕ) (i : ℕ) (r : code.Read) {v : ℕ} → r ≡ read_in s i → v ≡ version_in (cells r.object.0 r.key)
     → eqb v r.version.0 ≡ current cells (read_at s i)
 unfolding read_in
-read-current cells s i r e f =
+read_current cells s i r e f =
     ap (λ (v : ℕ). eqb v r.version.0) f ∙ ap (λ (x : code.Read). eqb (version_in (cells x.object.0 x.key)) x.version.0) e
 
 -- what the test of the read at place k asks
@@ -100,35 +99,24 @@ module _ (d : List ℕ) (log : Log) (p : ℕ) where
 
 -- ---- whether it commits
 
-module _ (cells : Holds) (items : List ℕ) where
-  abbrev read_here : ℕ → Read
-  read_here i = read_at items (item_size * i)
-
-  abbrev pub stale : ℕ → Bool
-  stale = failing (current cells) read_here
-
-  -- the loop over the n reads met a stale one, or none
-  module _ {n k : ℕ} (e : n ≡ length items / item_size) (s : Seeking stale n k) where
-    tested-by : (b : Bool) → all (current cells) (values read_here 0 n) ≡ b → b ≡ all (current cells) (reads_given items)
-    tested-by b h = sym h ∙ ap (λ (m : ℕ). all (current cells) (values read_here 0 m)) e
-
-    pub not-current : k < n → stale k ≡ true → false ≡ all (current cells) (reads_given items)
-    not-current l t = tested-by false (every-not (current cells) read_here s l t)
-
-    pub are-current : n ≤ k → true ≡ all (current cells) (reads_given items)
-    are-current l = tested-by true (every-all (current cells) read_here s l)
+-- a test of the value at each index of a range is the test of each value
+module _ {A : Type 0} (f : A → Bool) (g : ℕ → A) where
+  pub range-values : (i n : ℕ) → list_all (λ k. f (g k)) (range_with_len i n) ≡ all f (values g i n)
+  unfolding values
+  range-values i zero = refl
+  range-values i (suc n) = ap (λ (b : Bool). f (g i) && b) (ap (λ (k : ℕ). list_all (λ k. f (g k)) (range_with_len k n)) (add-one i) ∙ range-values (suc i) n)
 
 -- two numbers are met where each is
-pub both-met : (won items : List ℕ) (a b : ℕ) → (within won (unless_zero a []) && within won (unless_zero b [])) ≡ within won (named (condition_given items a b))
+pub both_met : (won items : List ℕ) (a b : ℕ) {x y : Bool} → x ≡ within won (unless_zero a []) → y ≡ within won (unless_zero b []) → (x && y) ≡ within won (named (condition_given items a b))
 unfolding named
-both-met won items a b = go (eqb a 0)
+both_met won items a b e f = (λ j. e j && f j) ∙ go (eqb a 0)
   where
     go : (t : Bool) → (within won (cond t [] (a ∷ [])) && within won (unless_zero b [])) ≡ within won (cond t (unless_zero b []) (a ∷ unless_zero b []))
     go true = refl
     go false = ap (λ (t : Bool). t && within won (unless_zero b [])) (and-true (mem a won))
 
--- the reads and the names decide
-pub outcome-is : (cells : Holds) (won items : List ℕ) (a b : ℕ) {x y : Bool} → x ≡ all (current cells) (reads_given items) → y ≡ within won (named (condition_given items a b))
-    → (x && y) ≡ commits_over cells won (condition_given items a b)
+-- the record's test, the reads and the names decide
+pub outcome_is : (cells : Holds) (won items : List ℕ) (a b : ℕ) {f g x y : Bool} → f ≡ g → x ≡ all (current cells) (reads_given items) → y ≡ within won (named (condition_given items a b))
+    → (f && (x && y)) ≡ (g && commits_over cells won (condition_given items a b))
 unfolding commits_over
-outcome-is cells won items a b e f = λ j. e j && f j
+outcome_is cells won items a b d e f = λ j. d j && (e j && f j)

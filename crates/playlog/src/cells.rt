@@ -2,20 +2,20 @@
 ghost use Rattle.laws.specs.Ruled.{Ruled};
 
 use codec::cells::Content;
+use codec::layout::CELL_SIZE;
 use records::Record;
 use table::rows::Row;
 
 // The line of a cell.
 fn line(r: Row) {
-    printing::number(printing::wide(r.object.0));
-    printing::next(printing::wide(r.key));
+    printing::number(u64::from(r.object.0));
+    printing::next(u64::from(r.key));
     let c = table::rows::written_in(r);
-    let content = c.content;
-    match content {
+    match c.content {
         Content::Removed => {
             io::write_all(1, b" -");
         }
-        Content::Value(v) => printing::next(printing::wide(v)),
+        Content::Value(v) => printing::next(u64::from(v)),
     }
     printing::next(c.version.0);
     printing::line_end();
@@ -29,10 +29,7 @@ pub fn print(dir: &[u8], r: Record, table: &[u8])
     if !records::fits(dir, r, table) {
         return;
     }
-    let n = r.count as usize;
-    let mut i = 0;
-    while i < n {
-        line(table::rows::row_at(table, i));
-        i += 1;
+    for row in table.chunks_exact(CELL_SIZE).take(r.count as usize) {
+        line(table::rows::row_at(row, 0));
     }
 }

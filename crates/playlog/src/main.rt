@@ -6,7 +6,7 @@ mod outcomes;
 
 ghost use Rattle.playlog.specs.Outcomes.{Reportable};
 
-use answers::{Checked, Refusal};
+use answers::Refusal;
 use codec::layout::SLOT_SIZE;
 
 // The directory of the eight objects has so many bytes.
@@ -19,19 +19,19 @@ fn report(dir: &[u8], log: &[u8])
     let tail = log.len() / SLOT_SIZE;
     let mut scratch = [0u8; 65520];
     let l = audit::audit(dir, log, tail, &mut scratch);
-    let a = l.answer;
-    match a {
-        Checked::Refused(r) => {
+    match l.answer {
+        Err(r) => {
             printing::refusal(r);
             printing::line_end();
         }
-        Checked::Done => {
+        Ok(()) => {
             outcomes::print(dir, log, tail);
             cells::print(dir, l.record, &scratch);
         }
     }
 }
 
+#[tactic(auto, using(crate::specs::Eight::same_ruled))]
 fn main() {
     let mut buffer = [0u8; 65537];
     let n = io::read_full(0, &mut buffer);

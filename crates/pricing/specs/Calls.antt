@@ -1,11 +1,12 @@
 -- The call's tests in turn, and the rows of its map: a stretch of a table in order, whose keys rise.
-use Rattle.std.specs.Prelude.{ℕ, ◌+◌, ◌-◌, ◌*◌, ◌≤◌, ◌<◌, ◌≡◌, refl, Bool, true, false, cond, not, ◌&&◌, ◌||◌, eqb, leb}
+use Rattle.std.specs.Prelude.{ℕ, ◌+◌, ◌-◌, ◌*◌, ◌≤◌, ◌<◌, ◌≡◌, refl, Bool, true, false, cond, not, ◌&&◌, ◌||◌, eqb, leb, Err}
 use Rattle.std.proofs.Math.Path.{ap}
 use Rattle.std.proofs.Common.{sym, ◌∙◌}
 use mathlib.Core.List.{List, [], ◌∷◌}
 use Rattle.std.proofs.Math.Option.{Option, none, some}
 use native.Mathlib.Omega.{arith}
-use borrow.Author.Tests.{eqb-true, eq-eqb}
+use Rattle.std.proofs.Common.{eqb-true, eq-eqb}
+use Rattle.std.proofs.lemmas.Bool.{not-true, not-false}
 use Rattle.std.proofs.Math.ListN.{get_or}
 use Rattle.lists.specs.Tests.{both}
 use Rattle.lists.specs.Rows.{get_or-values}
@@ -20,10 +21,8 @@ use Rattle.laws.specs.Ruled.{Ruled}
 use Rattle.laws.proofs.CellOrder.{lex-case, before-trans}
 use Rattle.laws.proofs.Rising.{rising}
 use Rattle.directory.specs.Maps.{MapGiven}
-use Rattle.answers.specs.Refusals.{refusal_in, checked_in, directed-refused, ruled-passes}
+use Rattle.answers.specs.Refusals.{refusal_in, checked_in, directed-refused, ruled-passes, Answered}
 use Rattle.answers.specs.declared.Refusal as code
-use Rattle.answers.specs.declared.Checked.{Checked}
-use Rattle.answers.specs.declared.Checked.TheVariants as checked
 use Rattle.records.specs.declared.Record.{Record}
 use Rattle.records.specs.Record.{replica_in}
 use Rattle.table.specs.Order.{rows_of, of_object, Ordered, Stretched}
@@ -85,7 +84,7 @@ summed-up d t count o highest s w cells =
 -- ---- the tests
 
 -- a fault of the directory is ahead of the others
-pub price-directory : (d : List ℕ) (r : Record) (table : List ℕ) (o : ℕ) (s : List ℕ) (c : Checked) (x : code.Refusal) → checked_in c ≡ answer (bad_directory (shape_of d)) tt → c ≡ checked.Refused x
+pub price-directory : (d : List ℕ) (r : Record) (table : List ℕ) (o : ℕ) (s : List ℕ) (c : Answered (Unit {0})) (x : code.Refusal) → checked_in c ≡ answer (bad_directory (shape_of d)) tt → c ≡ Err x
     → price (shape_of d) (replica_in r) table o s ≡ refused (refusal_in x)
 unfolding price
 price-directory d r table o s c x e h =
@@ -93,6 +92,13 @@ price-directory d r table o s c x e h =
     (λ (y : Option Refusal). answer (first_of (y ∷ refuse 10 (bad_record (shape_of d) (replica_in r) table) ∷ refuse 3 (bad_order (shape_of d) (replica_in r) o s)
     ∷ refuse_at 19 (unpriced (shape_of d) o (prices_in s) (cells_of table r.count)) ∷ []))
     (total (shape_of d) o (prices_in s) (cells_of table r.count))) (directed-refused d c e x h)
+
+-- what the test of the record tells
+pub unfit : {f b : Bool} → f ≡ not b → f ≡ false → true ≡ b
+unfit {f} {b} e t = sym (not-false b (sym e ∙ t))
+
+pub fit : {f b : Bool} → f ≡ not b → f ≡ true → false ≡ b
+fit {f} {b} e t = sym (not-true b (sym e ∙ t))
 
 module _ {d : List ℕ} (ruled : Ruled d) (r : Record) (table : List ℕ) (o : ℕ) (s : List ℕ) where
   abbrev lacking : Option Refusal

@@ -52,8 +52,8 @@ under_more {s} {k} {key} u l h = record { few = omega arith; under = λ j m. bel
 pub sought-here : {s : List ℕ} {k key : ℕ} → Under s k key → key ≤ key_of s k → Sought s key k
 sought-here u h = record { few = u.few; under = u.under; over = λ l. h }
 
-pub sought-end : {s : List ℕ} {k key : ℕ} → Under s k key → price_count s ≤ k → Sought s key k
-sought-end u h = record { few = u.few; under = u.under; over = λ l. absurd (omega arith) }
+pub sought-end : {s : List ℕ} {k key n : ℕ} → Under s k key → n ≡ price_count s → n ≤ k → Sought s key n
+sought-end u e h = record { few = omega arith; under = λ j l. u.under j (omega arith); over = λ l. absurd (omega arith) }
 
 -- ---- the record of a key
 

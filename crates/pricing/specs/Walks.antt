@@ -1,38 +1,30 @@
 -- The walk down the rows beside the prices: what a step promises, and what is left to walk has the answer.
-use Rattle.std.specs.Prelude.{ℕ, suc, ◌+◌, ◌-◌, ◌*◌, ◌^◌, ◌≤◌, ◌<◌, ◌≡◌, refl, Bool, true, false, not, ◌&&◌, eqb, ltb, length}
+use Rattle.std.specs.Prelude.{ℕ, suc, ◌+◌, ◌-◌, ◌*◌, ◌^◌, ◌≤◌, ◌<◌, ◌≡◌, refl, Bool, true, false, ◌&&◌, eqb, ltb, length, Ok, Err}
 use Rattle.std.proofs.Math.Path.{ap, sym}
 use Rattle.std.proofs.Common.{◌∙◌, arith, ltb-true}
 use Rattle.std.proofs.Math.Bool.{cond}
 use mathlib.Core.List.{List, [], ◌∷◌}
 use Rattle.std.proofs.Math.Option.{Option, none, some}
-use Rattle.std.proofs.lemmas.Bool.{not-true, not-false}
 use Rattle.lists.specs.Tests.{and_l, both}
 use Rattle.lists.specs.Rows.{values}
 use Rattle.model.specs.Entries.{if_some, is_none}
 use Rattle.model.specs.Table.{Cell, cell_at, cell_size}
 use Rattle.model.specs.Answers.{Answer, done, refused, refuse_at, answer}
 use Rattle.model.specs.Pricing.{price_size, Price, price_at, price_count, prices_in, bad_prices, line_of, price_of}
-use Rattle.answers.specs.Refusals.{refusal_in}
-use Rattle.answers.specs.declared.Refusal.TheVariants as refusal
+use Rattle.answers.specs.Refusals.{refusal_in, Answered}
+use Rattle.answers.specs.declared.Refusal.{Refusal}
+use Rattle.answers.specs.declared.Refusal.TheVariants.{NoPrice}
 use Rattle.table.specs.Order.{rows_of}
 use Rattle.pricing.specs.declared.prices.Price as code
 use Rattle.pricing.specs.declared.lines.Sum.{Sum}
 use Rattle.pricing.specs.declared.walk.Tally.{Tally}
-use Rattle.pricing.specs.declared.walk.Next.{Next}
-use Rattle.pricing.specs.declared.walk.Next.TheVariants.{On, NoPrice}
-use Rattle.pricing.specs.declared.walk.Priced.{Priced}
-use Rattle.pricing.specs.declared.walk.Priced.TheVariants.{Total, Refused}
 use Rattle.pricing.specs.Prices.{price_in, key_of, InRange, Under, Sought, price-found, price-missing, in-range}
 use Rattle.pricing.specs.Sums.{sum_of}
 use Rattle.pricing.specs.Rows.{is_summed, line_by, lacks_by, sum_in, lack_in}
 
-abbrev pub priced_in : Priced → Answer ℕ
-priced_in (Total high low) = done (high * 2 ^ 64 + low)
-priced_in (Refused r) = refused (refusal_in r)
-
--- the sum so far
-abbrev pub total_of : Tally → ℕ
-total_of w = w.high * 2 ^ 64 + w.low
+abbrev pub priced_in : Answered Sum → Answer ℕ
+priced_in (Ok total) = done (sum_of total)
+priced_in (Err r) = refused (refusal_in r)
 
 abbrev pub row_key : List ℕ → ℕ → ℕ
 row_key t i = (cell_at t (cell_size * i)).key
@@ -42,25 +34,25 @@ row_key t i = (cell_at t (cell_size * i)).key
 pub record StepGiven (s : List ℕ) (w : Tally) (c : Cell) : Type 0 where
   pub good : bad_prices s ≡ false
   pub under : Under s w.place c.key
-  pub small : w.high + 1 < 2 ^ 64
+  pub small : w.sum.high + 1 < 2 ^ 64
 
 -- the row does not lack a price; its line is added
 pub record Moved (s : List ℕ) (highest : ℕ) (w : Tally) (c : Cell) (v : Tally) : Type 0 where
   pub priced : lacks_by highest (prices_in s) c ≡ false
-  pub sum : total_of v ≡ total_of w + line_by highest (prices_in s) c
-  pub carry : v.high ≤ w.high + 1
+  pub sum : sum_of v.sum ≡ sum_of w.sum + line_by highest (prices_in s) c
+  pub carry : v.sum.high ≤ w.sum.high + 1
   pub under : Under s v.place c.key
 
 -- it does
-pub record Lacks (s : List ℕ) (highest : ℕ) (c : Cell) (k : ℕ) : Type 0 where
+pub record Lacks (s : List ℕ) (highest : ℕ) (c : Cell) (r : Refusal) : Type 0 where
   pub lacks : lacks_by highest (prices_in s) c ≡ true
-  pub key : k ≡ c.key
+  pub key : r ≡ NoPrice c.key
 
-abbrev pub SteppedSo : List ℕ → ℕ → Tally → Cell → Next → Type 0
-SteppedSo s highest w c (On v) = Moved s highest w c v
-SteppedSo s highest w c (NoPrice k) = Lacks s highest c k
+abbrev pub SteppedSo : List ℕ → ℕ → Tally → Cell → Answered Tally → Type 0
+SteppedSo s highest w c (Ok v) = Moved s highest w c v
+SteppedSo s highest w c (Err r) = Lacks s highest c r
 
-pub record Stepped (s : List ℕ) (highest : ℕ) (w : Tally) (c : Cell) (x : Next) : Type 0 where
+pub record Stepped (s : List ℕ) (highest : ℕ) (w : Tally) (c : Cell) (x : Answered Tally) : Type 0 where
   pub so : SteppedSo s highest w c x
 
 -- the price of key x stands at place k
@@ -76,9 +68,9 @@ pub record LineAt (s : List ℕ) (highest : ℕ) (c : Cell) (k : ℕ) : Type 0 w
 
 module _ (highest : ℕ) {s : List ℕ} {w : Tally} {c : Cell} (given : StepGiven s w c) where
   -- a row that is no line; t is the test's result
-  pub step_past : {t : Bool} → t ≡ is_summed highest c → not t ≡ true → Stepped s highest w c (On w)
+  pub step_past : {t : Bool} → t ≡ is_summed highest c → t ≡ false → Stepped s highest w c (Ok w)
   step_past {t} e n =
-      let out : is_summed highest c ≡ false = sym e ∙ not-true t n in
+      let out : is_summed highest c ≡ false = sym e ∙ n in
       record {
         so = record {
           priced = ap (λ (b : Bool). b && is_none (price_of (prices_in s) c.key)) out;
@@ -89,16 +81,16 @@ module _ (highest : ℕ) {s : List ℕ} {w : Tally} {c : Cell} (given : StepGive
       }
 
   -- a line without a price; u is whether its price stands at place k
-  pub step-lacks : {t : Bool} → t ≡ is_summed highest c → not t ≡ false → {k : ℕ} → Sought s c.key k → {u : Bool} → u ≡ is_there s k c.key → not u ≡ true → Stepped s highest w c (NoPrice c.key)
+  pub step-lacks : {t : Bool} → t ≡ is_summed highest c → t ≡ true → {k : ℕ} → Sought s c.key k → {u : Bool} → u ≡ is_there s k c.key → u ≡ false → Stepped s highest w c (Err (NoPrice c.key))
   step-lacks {t} e n sought {u} told m =
-      record { so = record { lacks = both (sym e ∙ not-false t n) (ap is_none (price-missing s given.good sought (sym told ∙ not-true u m))); key = refl } }
+      record { so = record { lacks = both (sym e ∙ n) (ap is_none (price-missing s given.good sought (sym told ∙ m))); key = refl } }
 
   -- a line with its price
-  pub line_at : {t : Bool} → t ≡ is_summed highest c → not t ≡ false → {k : ℕ} → Sought s c.key k → {u : Bool} → u ≡ is_there s k c.key → not u ≡ false → LineAt s highest c k
+  pub line_at : {t : Bool} → t ≡ is_summed highest c → t ≡ true → {k : ℕ} → Sought s c.key k → {u : Bool} → u ≡ is_there s k c.key → u ≡ true → LineAt s highest c k
   line_at {t} e n {k} sought {u} told m =
-      let there : is_there s k c.key ≡ true = sym told ∙ not-false u m in
+      let there : is_there s k c.key ≡ true = sym told ∙ m in
       record {
-        line = sym e ∙ not-false t n;
+        line = sym e ∙ n;
         sought = sought;
         place = ltb-true k (price_count s) (and_l (ltb k (price_count s)) (eqb (key_of s k) c.key) there);
         found = price-found s given.good sought there;
@@ -108,8 +100,8 @@ module _ (highest : ℕ) {s : List ℕ} {w : Tally} {c : Cell} (given : StepGive
   line-range l = in-range s given.good l.place
 
   pub step-on : {k : ℕ} → LineAt s highest c k → {p : code.Price} → price_in p ≡ price_at s (price_size * k) → {x : ℕ} → x ≡ line_of c.value (price_in p) → {sum : Sum}
-      → sum_of sum ≡ sum_of (record { high = w.high; low = w.low }) + x → sum.high ≤ w.high + 1
-      → Stepped s highest w c (On (record { place = k; high = sum.high; low = sum.low }))
+      → sum_of sum ≡ sum_of w.sum + x → sum.high ≤ w.sum.high + 1
+      → Stepped s highest w c (Ok (record { place = k; sum = sum }))
   step-on l i {x} line f h =
       let whole : line_by highest (prices_in s) c ≡ x =
       (λ j. cond (l.line j) (if_some (l.found j) 0 (line_of c.value)) 0) ∙ ap (line_of c.value) (sym i) ∙ sym line in
@@ -133,9 +125,9 @@ pub record WalkGiven (t : List ℕ) (first n : ℕ) (s : List ℕ) : Type 0 wher
 -- after i rows: what is left has the answer, and the prices that were passed are below every row that is left
 pub record Walking (t : List ℕ) (first n highest : ℕ) (s : List ℕ) (i : ℕ) (w : Tally) : Type 0 where
   pub passed : i ≤ n
-  pub sum : sum_in highest (prices_in s) (rows_of t first n) ≡ total_of w + sum_in highest (prices_in s) (rows_of t (first + i) (n - i))
+  pub sum : sum_in highest (prices_in s) (rows_of t first n) ≡ sum_of w.sum + sum_in highest (prices_in s) (rows_of t (first + i) (n - i))
   pub lacks : lack_in highest (prices_in s) (rows_of t first n) ≡ lack_in highest (prices_in s) (rows_of t (first + i) (n - i))
-  pub carry : w.high ≤ i
+  pub carry : w.sum.high ≤ i
   pub few : w.place ≤ price_count s
   pub under : (p : ℕ) → first + i ≤ p → p < first + n → (j : ℕ) → j < w.place → key_of s j < row_key t p
 
@@ -151,7 +143,7 @@ module _ (t : List ℕ) (first n highest : ℕ) (s : List ℕ) where
   abbrev ps : List Price
   ps = prices_in s
 
-  pub walking-none : Walking t first n highest s 0 (record { place = 0; high = 0; low = 0 })
+  pub walking-none : Walking t first n highest s 0 (record { place = 0; sum = record { high = 0; low = 0 } })
   walking-none =
       let same : rows_of t first n ≡ rows_of t (first + 0) (n - 0) = (let e : first ≡ first + 0 = omega arith in let f : n ≡ n - 0 = omega arith in λ j. rows_of t (e j) (f j)) in
       record {
@@ -190,19 +182,19 @@ module _ (t : List ℕ) (first n highest : ℕ) (s : List ℕ) where
       }
 
       -- the row lacks a price, and none before it
-      pub walking-lacks : {x : ℕ} → Lacks s highest c x → priced_in (Refused (refusal.NoPrice x)) ≡ answer (refuse_at 19 (lack_in highest ps (rows_of t first n))) (sum_in highest ps (rows_of t first n))
+      pub walking-lacks : {r : Refusal} → Lacks s highest c r → priced_in (Err r) ≡ answer (refuse_at 19 (lack_in highest ps (rows_of t first n))) (sum_in highest ps (rows_of t first n))
       unfolding lack_in
-      walking-lacks {x} m =
-          let found : lack_in highest ps (rows_of t first n) ≡ some x =
-          k.lacks ∙ ap (lack_in highest ps) at_row ∙ ap (λ (b : Bool). cond b (some c.key) (lack_in highest ps (rows_of t (first + (i + 1)) (n - (i + 1))))) m.lacks ∙ ap some (sym m.key) in
-          sym (ap (λ (y : Option ℕ). answer (refuse_at 19 y) (sum_in highest ps (rows_of t first n))) found)
+      walking-lacks {r} m =
+          let found : lack_in highest ps (rows_of t first n) ≡ some c.key =
+          k.lacks ∙ ap (lack_in highest ps) at_row ∙ ap (λ (b : Bool). cond b (some c.key) (lack_in highest ps (rows_of t (first + (i + 1)) (n - (i + 1))))) m.lacks in
+          ap (λ (x : Refusal). priced_in (Err x)) m.key ∙ sym (ap (λ (y : Option ℕ). answer (refuse_at 19 y) (sum_in highest ps (rows_of t first n))) found)
 
     -- all rows have been walked
-    pub walking-all : n ≤ i → priced_in (Total w.high w.low) ≡ answer (refuse_at 19 (lack_in highest ps (rows_of t first n))) (sum_in highest ps (rows_of t first n))
+    pub walking-all : n ≤ i → priced_in (Ok w.sum) ≡ answer (refuse_at 19 (lack_in highest ps (rows_of t first n))) (sum_in highest ps (rows_of t first n))
     unfolding sum_in lack_in rows_of values
     walking-all l =
         let e : n - i ≡ 0 = omega (arith, k.passed) in
         let none_left : rows_of t (first + i) (n - i) ≡ [] = ap (rows_of t (first + i)) e in
         let found : lack_in highest ps (rows_of t first n) ≡ none = k.lacks ∙ ap (lack_in highest ps) none_left in
-        let whole : total_of w ≡ sum_in highest ps (rows_of t first n) = omega (arith, k.sum, ap (sum_in highest ps) none_left) in
+        let whole : sum_of w.sum ≡ sum_in highest ps (rows_of t first n) = omega (arith, k.sum, ap (sum_in highest ps) none_left) in
         ap (λ (m : ℕ). done m) whole ∙ sym (ap (λ (y : Option ℕ). answer (refuse_at 19 y) (sum_in highest ps (rows_of t first n))) found)

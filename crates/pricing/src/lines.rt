@@ -32,21 +32,19 @@ pub struct Sum {
     pub low: u64,
 }
 
-const GREATEST: u64 = 18446744073709551615;
-
 // With a line more; what does not fit the low part is carried.
-pub fn add(high: u64, low: u64, line: u64) -> Sum
-    requires { high + 1 < 2 ^ 64 }
-    ensures { (sum_of result ≡ sum_of (record { high = high; low = low }) + line) × (result.high ≤ high + 1) }
+pub fn add(sum: Sum, line: u64) -> Sum
+    requires { sum.high + 1 < 2 ^ 64 }
+    ensures { (sum_of result ≡ sum_of sum + line) × (result.high ≤ sum.high + 1) }
 {
-    if line <= GREATEST - low {
-        return Sum {
-            high: high,
-            low: low + line,
-        };
-    }
-    Sum {
-        high: high + 1,
-        low: line - 1 - (GREATEST - low),
+    match sum.low.checked_add(line) {
+        Some(low) => Sum {
+            high: sum.high,
+            low,
+        },
+        None => Sum {
+            high: sum.high + 1,
+            low: sum.low.wrapping_add(line),
+        },
     }
 }

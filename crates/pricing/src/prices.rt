@@ -32,6 +32,7 @@ pub fn key_at(prices: &[u8], k: usize) -> u32
     codec::bytes::be32(prices, PRICE_SIZE * k + KEY_BEGINS)
 }
 
+#[tactic(auto, unfolding(model::specs::Pricing::price_at))]
 pub fn price_at(prices: &[u8], k: usize) -> Price
     requires { price_size * k + price_size ≤ length prices.now }
     ensures { price_in result ≡ price_at prices.now (price_size * k) }
@@ -46,38 +47,26 @@ pub fn price_at(prices: &[u8], k: usize) -> Price
 }
 
 // The record at byte i has its mark and its zero bytes, and its fields are in range.
+#[tactic(auto, unfolding(model::specs::Pricing::ok_price))]
 fn is_record(prices: &[u8], i: usize) -> bool
     requires { i + price_size ≤ length prices.now }
     ensures { result ≡ ok_price prices.now i }
 {
-    if codec::bytes::be16(prices, i) != MARK_PRICE {
-        return false;
-    }
-    if codec::bytes::be16(prices, i + ZEROS_BEGIN) != 0 {
-        return false;
-    }
-    if MOST_CENTS < codec::bytes::be32(prices, i + CENTS_BEGIN) {
-        return false;
-    }
-    codec::bytes::be32(prices, i + PERCENT_BEGINS) <= MOST_PERCENT
+    codec::bytes::be16(prices, i) == MARK_PRICE
+        && codec::bytes::be16(prices, i + ZEROS_BEGIN) == 0
+        && codec::bytes::be32(prices, i + CENTS_BEGIN) <= MOST_CENTS
+        && codec::bytes::be32(prices, i + PERCENT_BEGINS) <= MOST_PERCENT
 }
 
 // Each record is within its rules.
 fn are_records(prices: &[u8]) -> bool
     ensures { result ≡ all (ok_price prices.now) (values (λ k. price_size * k) 0 (price_count prices.now)) }
 {
-    let n = count(prices);
-    let mut k = 0;
-    while k < n {
-        if !is_record(prices, PRICE_SIZE * k) {
-            return false;
-        }
-        k += 1;
-    }
-    true
+    (0..count(prices)).all(|k| is_record(prices, PRICE_SIZE * k))
 }
 
 // The key at place k is below the next.
+#[tactic(auto, unfolding(model::specs::Pricing::price_at))]
 fn is_before_next(prices: &[u8], k: usize) -> bool
     requires { price_size * (k + 1) + price_size ≤ length prices.now }
     ensures { result ≡ price_before (price_at prices.now (price_size * k)) (price_at prices.now (price_size * (k + 1))) }
@@ -89,27 +78,14 @@ fn is_before_next(prices: &[u8], k: usize) -> bool
 fn are_ascending(prices: &[u8]) -> bool
     ensures { result ≡ ascending price_before (prices_in prices.now) }
 {
-    let n = count(prices);
-    let mut k = 0;
-    while k + 1 < n {
-        if !is_before_next(prices, k) {
-            return false;
-        }
-        k += 1;
-    }
-    true
+    (1..count(prices)).all(|k| is_before_next(prices, k - 1))
 }
 
+#[tactic(auto, unfolding(model::specs::Pricing::bad_prices))]
 pub fn are_bad(prices: &[u8]) -> bool
     ensures { result ≡ bad_prices prices.now }
 {
-    if prices.len() % PRICE_SIZE != 0 {
-        return true;
-    }
-    if !are_records(prices) {
-        return true;
-    }
-    !are_ascending(prices)
+    prices.len() % PRICE_SIZE != 0 || !are_records(prices) || !are_ascending(prices)
 }
 
 // The first place from another on whose key is not below this one; the number of records where there is none.
@@ -118,22 +94,17 @@ pub fn seek(prices: &[u8], from: usize, key: u32) -> usize
     ensures { Sought prices.now key result }
 {
     let n = count(prices);
-    let mut k = from;
-    while k < n {
+    for k in from..n {
         if key <= key_at(prices, k) {
             return k;
         }
-        k += 1;
     }
-    k
+    n
 }
 
 // Place k has the record of this key.
 pub fn is_at(prices: &[u8], k: usize, key: u32) -> bool
     ensures { result ≡ (ltb k (price_count prices.now) && eqb (key_of prices.now k) key) }
 {
-    if count(prices) <= k {
-        return false;
-    }
-    key_at(prices, k) == key
+    k < count(prices) && key_at(prices, k) == key
 }

@@ -7,6 +7,7 @@ ghost use Rattle.table.specs.Order.{rows_of};
 ghost use Rattle.pricing.specs.Rows.{is_summed, lack_in, sum_in};
 ghost use Rattle.pricing.specs.Walks.{priced_in, StepGiven, Stepped, WalkGiven};
 
+use crate::lines::Sum;
 use answers::Refusal;
 use table::rows::Row;
 
@@ -14,80 +15,53 @@ use table::rows::Row;
 #[derive(Clone, Copy)]
 pub struct Tally {
     pub place: usize,
-    pub high: u64,
-    pub low: u64,
-}
-
-#[derive(Clone, Copy)]
-pub enum Next {
-    On(Tally),
-    NoPrice(u32),
+    pub sum: Sum,
 }
 
 // The row is a cell of the map, present, with a quantity over 0.
 fn is_summed(r: Row, highest: u32) -> bool
     ensures { result ≡ is_summed highest (cell_in r) }
 {
-    if highest < r.key {
-        return false;
-    }
-    if r.present != 1 {
-        return false;
-    }
-    0 < r.value
+    r.key <= highest && r.present == 1 && 0 < r.value
 }
 
 // One row more.
-fn step(r: Row, highest: u32, prices: &[u8], w: Tally) -> Next
+fn step(r: Row, highest: u32, prices: &[u8], w: Tally) -> Result<Tally, Refusal>
     requires { StepGiven prices.now w (cell_in r) }
     ensures { Stepped prices.now highest w (cell_in r) result }
 {
     if !is_summed(r, highest) {
-        return Next::On(w);
+        return Ok(w);
     }
     let k = crate::prices::seek(prices, w.place, r.key);
     if !crate::prices::is_at(prices, k, r.key) {
-        return Next::NoPrice(r.key);
+        return Err(Refusal::NoPrice(r.key));
     }
     let line = crate::lines::line(r.value, crate::prices::price_at(prices, k));
-    let s = crate::lines::add(w.high, w.low, line);
-    Next::On(Tally {
+    Ok(Tally {
         place: k,
-        high: s.high,
-        low: s.low,
+        sum: crate::lines::add(w.sum, line),
     })
 }
 
-// A total in its two parts, or a refusal.
-#[derive(Clone, Copy)]
-pub enum Priced {
-    Total(u64, u64),
-    Refused(Refusal),
-}
-
 // The n rows of a map from the first on, with its highest key.
-pub fn walk(table: &[u8], first: usize, n: usize, highest: u32, prices: &[u8]) -> Priced
+pub fn walk(
+    table: &[u8],
+    first: usize,
+    n: usize,
+    highest: u32,
+    prices: &[u8],
+) -> Result<Sum, Refusal>
     requires { WalkGiven table.now first n prices.now }
     ensures { priced_in result ≡ answer (refuse_at 19 (lack_in highest (prices_in prices.now) (rows_of table.now first n))) (sum_in highest (prices_in prices.now) (rows_of table.now first n)) }
 {
     let mut w = Tally {
         place: 0,
-        high: 0,
-        low: 0,
+        sum: Sum { high: 0, low: 0 },
     };
-    let mut i = 0;
-    while i < n {
+    for i in 0..n {
         let r = table::rows::row_at(table, first + i);
-        i += 1;
-        let s = step(r, highest, prices, w);
-        match s {
-            Next::NoPrice(k) => {
-                return Priced::Refused(Refusal::NoPrice(k));
-            }
-            Next::On(v) => {
-                w = v;
-            }
-        }
+        w = step(r, highest, prices, w)?;
     }
-    Priced::Total(w.high, w.low)
+    Ok(w.sum)
 }

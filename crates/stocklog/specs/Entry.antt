@@ -8,10 +8,10 @@ use Rattle.model.specs.Reading.{Header}
 use Rattle.codec.specs.Marks.{kind_of}
 use Rattle.entries.specs.declared.calls.Info.{Info}
 use Rattle.entries.specs.Answers.{no_header, placed, info_of}
-use Rattle.stocklog.specs.Replies.{values, no_values, reply, coded, info_values, nth}
+use Rattle.stocklog.specs.Replies.{values, info_values, nth}
 
-pub entry-said : (i : Info) {kind : ℕ} → kind ≡ kind_of i.kind → reply 0 (values kind i.number.0 i.headers) 0 ≡ coded info_values no_values (done (info_of i))
-entry-said i e = λ j. reply 0 (values (e j) i.number.0 (sym (rows.length-values (placed i) 0 i.headers) j)) 0
+pub info_said : (i : Info) {kind number headers : ℕ} → kind ≡ kind_of i.kind → number ≡ i.number.0 → headers ≡ i.headers → values kind number headers ≡ info_values (info_of i)
+info_said i d e f = λ j. values (d j) (e j) ((f ∙ sym (rows.length-values (placed i) 0 i.headers)) j)
 
 -- ---- a header by its place
 
@@ -34,13 +34,13 @@ pub place_is : (i : Info) {k : ℕ} (p : ℕ) → k ≡ p → k < i.headers → 
 place_is i {k} p e l = sym (nth-below (placed i) 0 i.headers k l ∙ ap (λ (m : ℕ). done (placed i m)) (zero-add k ∙ e))
 
 -- not below the number of headers
-pub place-above : (i : Info) (k : ℕ) → i.headers ≤ k → refused (record { number = 3; told = none }) ≡ nth (info_of i).headers k
-place-above i k l = sym (nth-above (placed i) 0 i.headers k l)
+pub place_above : (i : Info) (k : ℕ) → i.headers ≤ k → refused (record { number = 3; told = none }) ≡ nth (info_of i).headers k
+place_above i k l = sym (nth-above (placed i) 0 i.headers k l)
 
 -- none of the four
-pub place-fifth : (i : Info) (k : ℕ) → (k ≡ 0 → ⊥) → (k ≡ 1 → ⊥) → (k ≡ 2 → ⊥) → (k ≡ 3 → ⊥) → k < i.headers → done no_header ≡ nth (info_of i).headers k
-place-fifth i zero a b c d l = absurd (a refl)
-place-fifth i (suc zero) a b c d l = absurd (b refl)
-place-fifth i (suc (suc zero)) a b c d l = absurd (c refl)
-place-fifth i (suc (suc (suc zero))) a b c d l = absurd (d refl)
-place-fifth i (suc (suc (suc (suc k)))) a b c d l = place_is i (suc (suc (suc (suc k)))) refl l
+pub place_fifth : (i : Info) (k : ℕ) → 3 < k → k < i.headers → done no_header ≡ nth (info_of i).headers k
+place_fifth i zero h l = absurd (omega arith)
+place_fifth i (suc zero) h l = absurd (omega arith)
+place_fifth i (suc (suc zero)) h l = absurd (omega arith)
+place_fifth i (suc (suc (suc zero))) h l = absurd (omega arith)
+place_fifth i (suc (suc (suc (suc k)))) h l = place_is i (suc (suc (suc (suc k)))) refl l

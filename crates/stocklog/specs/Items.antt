@@ -1,5 +1,5 @@
 -- Where the items of an entry lie: the part of the log's bytes that the call says is the item list.
-use Rattle.std.specs.Prelude.{◌≡◌, List, [], ◌∷◌, ℕ, ◌*◌, ◌<◌, leb, take}
+use Rattle.std.specs.Prelude.{◌≡◌, List, [], ◌∷◌, ℕ, ◌*◌, ◌<◌, leb, take, Ok, Err, IfOk}
 use Rattle.std.proofs.Math.Path.{refl, ap, sym}
 use Rattle.std.proofs.Common.{◌∙◌, arith, leb-false}
 use Rattle.std.proofs.Math.Option.{Option, none, some}
@@ -14,9 +14,11 @@ use Rattle.laws.proofs.Good.{good-all}
 use Rattle.laws.proofs.Refusals.{AllPass, all_pass, refuse-none, refuse_at-none}
 use Rattle.codec.specs.Eight.{slot, log_of, slot_size, bad_frame, info_in, stretch}
 use Rattle.scans.specs.Access.{frame_of, Framed, Inside}
-use Rattle.answers.specs.Refusals.{refused_in, refused-answer}
+use Rattle.answers.specs.Refusals.{Answered, refused_in, refused-answer}
 use Rattle.entries.specs.Calls.{frame_is}
+use Rattle.entries.specs.Answers.{info_of, found_in}
 use Rattle.entries.specs.Entry.{items_lie}
+use Rattle.entries.specs.declared.calls.Info as code
 use Rattle.stocklog.specs.Replies.{Reply, items_reply, part_said}
 
 module _ (d bytes : List ℕ) (tail o : ℕ) where
@@ -45,14 +47,18 @@ module _ (d bytes : List ℕ) (tail o : ℕ) where
     inside : Inside d bytes (frame_of tail) o
     inside = record { ruled = record { directed = refuse_at-none 15 (shape_of d).fault passed.0 }; framed = framed; below = below; good = good }
 
-  -- an entry that is told lies below the tail
-  pub entry-placed : (i : Info) → entry_call (shape_of d) log o ≡ done i → o < most_slots
+  told-below : (i : Info) → entry_call (shape_of d) log o ≡ done i → o < most_slots
   unfolding entry_call
-  entry-placed i e =
+  told-below i e =
       let n : entry_refusal (shape_of d) log o ≡ none = sym (refused-answer (entry_refusal (shape_of d) log o) (info_in (slot log.used o))) ∙ ap refused_in e in
       omega (arith, below n, (framed n).most)
 
-  pub items-part : part_said (items_reply o (entry_call (shape_of d) log o)) bytes ≡ item_list (shape_of d) log o
+  -- an entry that is told lies below the tail
+  pub entry_placed : (f : Answered code.Info) → found_in f ≡ entry_call (shape_of d) log o → IfOk f (λ i. o < most_slots)
+  entry_placed (Ok i) e = told-below (info_of i) (sym e)
+  entry_placed (Err r) e = tt
+
+  items-part : part_said (items_reply o (entry_call (shape_of d) log o)) bytes ≡ item_list (shape_of d) log o
   unfolding entry_call item_list model-info_in log_in
   items-part = go (entry_refusal (shape_of d) log o) refl
     where
@@ -60,5 +66,5 @@ module _ (d bytes : List ℕ) (tail o : ℕ) where
       go none e = items_lie bytes (frame_of tail) o (inside e)
       go (some r) e = refl
 
-  pub items-said : {r : Reply} → r ≡ items_reply o (entry_call (shape_of d) log o) → (r ≡ items_reply o (entry_call (shape_of d) log o)) × (part_said r bytes ≡ item_list (shape_of d) log o)
-  items-said e = (e, ap (λ (x : Reply). part_said x bytes) e ∙ items-part)
+  pub items_said : {r : Reply} → r ≡ items_reply o (entry_call (shape_of d) log o) → part_said r bytes ≡ item_list (shape_of d) log o
+  items_said e = ap (λ (x : Reply). part_said x bytes) e ∙ items-part

@@ -2,4 +2,3 @@ pub mod Entry
 pub mod Items
 pub mod Numbers
 pub mod Replies
-pub mod Totals

@@ -2,23 +2,11 @@
 ghost use Rattle.std.specs.Prelude.{◌≡◌};
 ghost use Rattle.model.specs.Directory.{shape_of};
 ghost use Rattle.model.specs.Append as model;
-ghost use Rattle.append.specs.Answers.{tail_in};
-ghost use Rattle.stocklog.specs.Replies.{number_reply, append_reply};
-ghost use Rattle.stocklog.specs.Numbers.{numbers_in};
+ghost use Rattle.stocklog.specs.Replies.{append_reply};
 
-use crate::numbers::Numbers;
-use append::write::Appended;
+use crate::numbers;
 use codec::names::{Names, ObjectId, Offset, TxNumber};
 use records::Record;
-
-fn of_appended(a: Appended) -> Numbers
-    ensures { numbers_in result ≡ number_reply (tail_in a) }
-{
-    match a {
-        Appended::Tail(t) => crate::numbers::done(t as u64, 0, 0),
-        Appended::Refused(r) => crate::numbers::refusal(r, 0, 0, 0),
-    }
-}
 
 // An update, plain or of a transaction.
 #[unsafe(no_mangle)]
@@ -33,7 +21,7 @@ pub extern "C" fn stocklog_append_update(
     ensures { record { reply = record { number = result; out = out.new }; lent = log.new } ≡ append_reply (model.append (shape_of dir.now) log.old tail (model.update number items.now)) }
 {
     let a = append::update::update(dir, log, tail, TxNumber(number), items);
-    crate::numbers::put(out, of_appended(a))
+    numbers::put(out, numbers::of_number(a))
 }
 
 // A transaction's commit record, which names two numbers, 0 for none.
@@ -58,7 +46,7 @@ pub extern "C" fn stocklog_append_commit(
         reads,
         Names(first, second),
     );
-    crate::numbers::put(out, of_appended(a))
+    numbers::put(out, numbers::of_number(a))
 }
 
 // The outcome of a commit record.
@@ -74,7 +62,7 @@ pub extern "C" fn stocklog_append_decision(
     ensures { record { reply = record { number = result; out = out.new }; lent = log.new } ≡ append_reply (model.append (shape_of dir.now) log.old tail (model.decides offset outcome)) }
 {
     let a = append::decision::decision(dir, log, tail, Offset(offset), outcome);
-    crate::numbers::put(out, of_appended(a))
+    numbers::put(out, numbers::of_number(a))
 }
 
 // The cells of one object of a replica.
@@ -93,10 +81,10 @@ pub extern "C" fn stocklog_append_checkpoint(
     ensures { record { reply = record { number = result; out = out.new }; lent = log.new } ≡ append_reply (model.append (shape_of dir.now) log.old tail (model.saves (record { hosting = hosted; position = position; count = count }) table.now object)) }
 {
     let r = Record {
-        hosted: hosted,
-        position: position,
-        count: count,
+        hosted,
+        position,
+        count,
     };
     let a = append::checkpoint::checkpoint(dir, log, tail, r, table, ObjectId(object));
-    crate::numbers::put(out, of_appended(a))
+    numbers::put(out, numbers::of_number(a))
 }

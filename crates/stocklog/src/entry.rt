@@ -3,63 +3,48 @@ ghost use Rattle.std.specs.Prelude.{◌≡◌};
 ghost use Rattle.model.specs.Directory.{shape_of};
 ghost use Rattle.model.specs.Reading.{entry_call, item_list};
 ghost use Rattle.codec.specs.Eight.{log_of};
-ghost use Rattle.codec.specs.Marks.{kind_of};
+ghost use Rattle.answers.specs.Refusals.{answer_by};
 ghost use Rattle.entries.specs.Answers.{header_from, info_of, found_in};
-ghost use Rattle.stocklog.specs.Replies.{reply, coded, no_values, info_values, more_told, entry_reply, nth, header_in, header_call, header_values, header_reply, items_reply, part_said};
-ghost use Rattle.stocklog.specs.Numbers.{numbers_in, more_in};
+ghost use Rattle.stocklog.specs.Replies.{coded, no_values, info_values, more_told, entry_reply, nth, header_call, header_reply, items_reply, part_said};
+ghost use Rattle.stocklog.specs.Numbers.{values_in, numbers_in};
 
-use crate::numbers::{More, Numbers};
+use crate::numbers::{self, NONE, Numbers, Values};
 use answers::Refusal;
 use codec::layout::{ITEM_SIZE, ITEMS_BEGIN, SLOT_SIZE};
-use codec::marks::Mark;
-use codec::names::Offset;
-use entries::calls::{Found, Info};
+use codec::names::{ObjectId, Offset};
+use entries::calls::Info;
 use slot::fields::Header;
 
-// The number of a kind.
-fn kind_of(m: Mark) -> u64
-    ensures { result ≡ kind_of m }
+const NO_HEADER: Header = Header {
+    object: ObjectId(0),
+    format: 0,
+    pointer: 0,
+};
+
+#[tactic(auto, using(crate::specs::Entry::info_said))]
+fn of_info(i: Info) -> Values
+    ensures { values_in result ≡ info_values (info_of i) }
 {
-    match m {
-        Mark::Update => 1,
-        Mark::Commit => 2,
-        Mark::Decision => 3,
-        Mark::Checkpoint => 4,
-        Mark::Bad => 0,
-    }
+    Values(i.kind.number(), u64::from(i.number.0), u64::from(i.headers))
 }
 
-fn of_entry(f: Found) -> Numbers
+fn of_entry(f: Result<Info, Refusal>) -> Numbers
     ensures { numbers_in result ≡ coded info_values no_values (found_in f) }
 {
-    match f {
-        Found::Entry(i) => {
-            let kind = i.kind;
-            let number = i.number;
-            crate::numbers::done(kind_of(kind), number.0 as u64, i.headers as u64)
-        }
-        Found::Refused(r) => crate::numbers::refusal(r, 0, 0, 0),
-    }
+    numbers::answered(f, NONE, of_info)
 }
 
 // How many items, and the two numbers that it names; zeros where it is refused.
-fn more_of(f: Found) -> More
-    ensures { more_in result ≡ more_told (found_in f) }
+fn more_of(f: Result<Info, Refusal>) -> Values
+    ensures { values_in result ≡ more_told (found_in f) }
 {
     match f {
-        Found::Entry(i) => {
-            let names = i.names;
-            More {
-                items: i.items as u64,
-                first: names.0 as u64,
-                second: names.1 as u64,
-            }
-        }
-        Found::Refused(_) => More {
-            items: 0,
-            first: 0,
-            second: 0,
-        },
+        Ok(i) => Values(
+            u64::from(i.items),
+            u64::from(i.names.0),
+            u64::from(i.names.1),
+        ),
+        Err(_) => NONE,
     }
 }
 
@@ -75,43 +60,35 @@ pub extern "C" fn stocklog_entry(
     ensures { record { number = result; out = out.new } ≡ entry_reply (entry_call (shape_of dir.now) (log_of log.now tail) offset) }
 {
     let f = entries::calls::entry(dir, log, tail, Offset(offset));
-    crate::numbers::put_eight(out, of_entry(f), more_of(f))
-}
-
-fn of_header(h: Header) -> Numbers
-    ensures { numbers_in result ≡ reply 0 (header_values (header_from h)) 0 }
-{
-    let id = h.object;
-    crate::numbers::done(id.0 as u64, h.format as u64, h.pointer)
+    numbers::put_eight(out, of_entry(f), more_of(f))
 }
 
 // One of the headers by its place, or 3. No entry has a fifth: it would be zero.
-fn of_place(i: Info, place: u32) -> Numbers
-    ensures { numbers_in result ≡ header_reply (nth (info_of i).headers place) }
+fn placed(i: Info, place: u32) -> Result<Header, Refusal>
+    ensures { answer_by header_from result ≡ nth (info_of i).headers place }
 {
     if i.headers <= place {
-        return crate::numbers::refusal(Refusal::Request, 0, 0, 0);
+        return Err(Refusal::Request);
     }
-    match place {
-        0 => of_header(i.first),
-        1 => of_header(i.second),
-        2 => of_header(i.third),
-        3 => of_header(i.fourth),
-        _ => crate::numbers::done(0, 0, 0),
-    }
+    Ok(match place {
+        0 => i.first,
+        1 => i.second,
+        2 => i.third,
+        3 => i.fourth,
+        _ => NO_HEADER,
+    })
 }
 
-// The same of the entry call's answer.
-fn of_found(f: Found, place: u32) -> Numbers
-    ensures { numbers_in result ≡ header_reply (header_in (found_in f) place) }
+fn of_header(h: Result<Header, Refusal>) -> Numbers
+    ensures { numbers_in result ≡ header_reply (answer_by header_from h) }
 {
-    match f {
-        Found::Entry(i) => of_place(i, place),
-        Found::Refused(r) => crate::numbers::refusal(r, 0, 0, 0),
-    }
+    numbers::answered(h, NONE, |h| {
+        Values(u64::from(h.object.0), u64::from(h.format), h.pointer)
+    })
 }
 
 // Object, format and the 8 bytes of a header by its place.
+#[tactic(auto, unfolding(crate::specs::Replies::header_call))]
 #[unsafe(no_mangle)]
 pub extern "C" fn stocklog_header(
     dir: &[u8],
@@ -123,8 +100,8 @@ pub extern "C" fn stocklog_header(
 ) -> u32
     ensures { record { number = result; out = out.new } ≡ header_reply (header_call (shape_of dir.now) (log_of log.now tail) offset place) }
 {
-    let f = entries::calls::entry(dir, log, tail, Offset(offset));
-    crate::numbers::put(out, of_found(f, place))
+    let h = entries::calls::entry(dir, log, tail, Offset(offset)).and_then(|i| placed(i, place));
+    numbers::put(out, of_header(h))
 }
 
 // The sizes and the place by which an item list lies in the log, as numbers of 64 bits.
@@ -147,14 +124,8 @@ pub extern "C" fn stocklog_items(
     ensures log_after { part_said (record { number = result; out = out.new }) log.now ≡ item_list (shape_of dir.now) (log_of log.now tail) offset }
 {
     let f = entries::calls::entry(dir, log, tail, Offset(offset));
-    match f {
-        Found::Refused(r) => {
-            return crate::numbers::put(out, crate::numbers::refusal(r, 0, 0, 0));
-        }
-        Found::Entry(i) => {
-            let at = SLOT * offset + ITEMS;
-            let n = ITEM * (i.items as u64);
-            return crate::numbers::put(out, crate::numbers::done(at, n, 0));
-        }
-    }
+    let n = numbers::answered(f, NONE, |i| {
+        Values(SLOT * offset + ITEMS, ITEM * u64::from(i.items), 0)
+    });
+    numbers::put(out, n)
 }

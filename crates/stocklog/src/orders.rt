@@ -6,18 +6,16 @@ ghost use Rattle.pricing.specs.Walks.{priced_in};
 ghost use Rattle.stocklog.specs.Replies.{price_reply};
 ghost use Rattle.stocklog.specs.Numbers.{numbers_in};
 
-use crate::numbers::Numbers;
+use crate::numbers::{self, NONE, Numbers, Values};
+use answers::Refusal;
 use codec::names::ObjectId;
-use pricing::walk::Priced;
+use pricing::lines::Sum;
 use records::Record;
 
-fn of_priced(a: Priced) -> Numbers
+fn of_priced(a: Result<Sum, Refusal>) -> Numbers
     ensures { numbers_in result ≡ price_reply (priced_in a) }
 {
-    match a {
-        Priced::Total(high, low) => crate::numbers::done(high, low, 0),
-        Priced::Refused(r) => crate::numbers::refusal(r, 0, 0, 0),
-    }
+    numbers::answered(a, NONE, |total| Values(total.high, total.low, 0))
 }
 
 // The total of a hosted map by a list of prices.
@@ -35,10 +33,10 @@ pub extern "C" fn stocklog_price(
     ensures { record { number = result; out = out.new } ≡ price_reply (price (shape_of dir.now) (record { hosting = hosted; position = position; count = count }) table.now object prices.now) }
 {
     let r = Record {
-        hosted: hosted,
-        position: position,
-        count: count,
+        hosted,
+        position,
+        count,
     };
     let a = pricing::call::price(dir, r, table, ObjectId(object), prices);
-    crate::numbers::put(out, of_priced(a))
+    numbers::put(out, of_priced(a))
 }

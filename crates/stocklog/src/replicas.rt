@@ -1,34 +1,32 @@
 // The calls on a replica, and the audit. A record comes as three numbers and goes out as three numbers.
 ghost use Rattle.std.specs.Prelude.{◌≡◌};
-ghost use Rattle.std.proofs.Math.Option.{some};
 ghost use Rattle.model.specs.Directory.{shape_of};
 ghost use Rattle.model.specs.Replica.{open_fresh, open_at, play_call, read_cell, audit};
 ghost use Rattle.codec.specs.Eight.{log_of};
-ghost use Rattle.codec.specs.Cells.{held_of};
 ghost use Rattle.answers.specs.Refusals.{checked_in};
 ghost use Rattle.records.specs.Record.{replica_in};
 ghost use Rattle.replica.specs.Answers.{opened_in, read_in};
 ghost use Rattle.table.specs.Rows.{held_case};
-ghost use Rattle.stocklog.specs.Replies.{reply, open_reply, stand_reply, left_reply, cell_values, cell_reply};
-ghost use Rattle.stocklog.specs.Numbers.{numbers_in};
+ghost use Rattle.stocklog.specs.Replies.{open_reply, replica_values, stand_reply, left_reply, cell_values, cell_reply};
+ghost use Rattle.stocklog.specs.Numbers.{values_in, numbers_in};
 
-use crate::numbers::Numbers;
-use answers::Checked;
+use crate::numbers::{self, NONE, Numbers, Values};
+use answers::Refusal;
 use codec::cells::{Content, Written};
 use codec::names::ObjectId;
 use records::Record;
-use replica::cells::Reading;
-use replica::opening::Opened;
 use replica::playing::Left;
-use table::rows::Held;
 
-fn of_opened(o: Opened) -> Numbers
+fn of_record(r: Record) -> Values
+    ensures { values_in result ≡ replica_values (replica_in r) }
+{
+    Values(r.hosted, r.position, r.count)
+}
+
+fn of_opened(o: Result<Record, Refusal>) -> Numbers
     ensures { numbers_in result ≡ open_reply (opened_in o) }
 {
-    match o {
-        Opened::Replica(r) => crate::numbers::done(r.hosted, r.position, r.count),
-        Opened::Refused(r) => crate::numbers::refusal(r, 0, 0, 0),
-    }
+    numbers::answered(o, NONE, of_record)
 }
 
 // A replica of a set at offset 0.
@@ -36,19 +34,15 @@ fn of_opened(o: Opened) -> Numbers
 pub extern "C" fn stocklog_open_fresh(dir: &[u8], hosted: u64, out: &mut [u64; 4]) -> u32
     ensures { record { number = result; out = out.new } ≡ open_reply (open_fresh (shape_of dir.now) hosted) }
 {
-    crate::numbers::put(out, of_opened(replica::opening::open_fresh(dir, hosted)))
+    numbers::put(out, of_opened(replica::opening::open_fresh(dir, hosted)))
 }
 
 // The record is said with every answer.
 fn of_left(l: Left) -> Numbers
     ensures { numbers_in result ≡ stand_reply (replica_in l.record) (checked_in l.answer) }
 {
-    let r = l.record;
-    let a = l.answer;
-    match a {
-        Checked::Done => crate::numbers::done(r.hosted, r.position, r.count),
-        Checked::Refused(x) => crate::numbers::refusal(x, r.hosted, r.position, r.count),
-    }
+    let record = of_record(l.record);
+    numbers::answered(l.answer, record, |()| record)
 }
 
 // A replica opened at the checkpoint at an offset.
@@ -64,7 +58,7 @@ pub extern "C" fn stocklog_open_checkpoint(
     ensures { record { reply = record { number = result; out = out.new }; lent = table.new } ≡ left_reply (open_at (shape_of dir.now) (log_of log.now tail) offset table.old) }
 {
     let l = replica::restoring::open_at(dir, log, tail, offset, table);
-    crate::numbers::put(out, of_left(l))
+    numbers::put(out, of_left(l))
 }
 
 // A replica played from its position to a stop.
@@ -83,42 +77,31 @@ pub extern "C" fn stocklog_play(
     ensures { record { reply = record { number = result; out = out.new }; lent = table.new } ≡ left_reply (play_call (shape_of dir.now) (log_of log.now tail) (record { hosting = hosted; position = position; count = count }) table.old stop) }
 {
     let r = Record {
-        hosted: hosted,
-        position: position,
-        count: count,
+        hosted,
+        position,
+        count,
     };
     let l = replica::playing::play(dir, log, tail, r, table, stop);
-    crate::numbers::put(out, of_left(l))
-}
-
-fn of_written(w: Written) -> Numbers
-    ensures { numbers_in result ≡ reply 0 (cell_values (some (held_of w))) 0 }
-{
-    let version = w.version;
-    let c = w.content;
-    match c {
-        Content::Removed => crate::numbers::done(2, 0, version.0),
-        Content::Value(v) => crate::numbers::done(1, v as u64, version.0),
-    }
+    numbers::put(out, of_left(l))
 }
 
 // What a cell holds: 0 never written, 1 holds a value, 2 removed; the value; the version.
-fn of_held(h: Held) -> Numbers
-    ensures { numbers_in result ≡ reply 0 (cell_values (held_case h)) 0 }
+fn of_held(h: Option<Written>) -> Values
+    ensures { values_in result ≡ cell_values (held_case h) }
 {
-    match h {
-        Held::Never => crate::numbers::done(0, 0, 0),
-        Held::Written(w) => of_written(w),
+    let Some(w) = h else {
+        return NONE;
+    };
+    match w.content {
+        Content::Removed => Values(2, 0, w.version.0),
+        Content::Value(v) => Values(1, u64::from(v), w.version.0),
     }
 }
 
-fn of_reading(a: Reading) -> Numbers
+fn of_reading(a: Result<Option<Written>, Refusal>) -> Numbers
     ensures { numbers_in result ≡ cell_reply (read_in a) }
 {
-    match a {
-        Reading::Cell(h) => of_held(h),
-        Reading::Refused(r) => crate::numbers::refusal(r, 0, 0, 0),
-    }
+    numbers::answered(a, NONE, of_held)
 }
 
 // What a replica shows for a cell.
@@ -136,12 +119,12 @@ pub extern "C" fn stocklog_read_cell(
     ensures { record { number = result; out = out.new } ≡ cell_reply (read_cell (shape_of dir.now) (record { hosting = hosted; position = position; count = count }) table.now object key) }
 {
     let r = Record {
-        hosted: hosted,
-        position: position,
-        count: count,
+        hosted,
+        position,
+        count,
     };
     let a = replica::cells::read_cell(dir, r, table, ObjectId(object), key);
-    crate::numbers::put(out, of_reading(a))
+    numbers::put(out, of_reading(a))
 }
 
 // The audit's play as a record, with 11 and 13 too.
@@ -156,5 +139,5 @@ pub extern "C" fn stocklog_audit(
     ensures { record { reply = record { number = result; out = out.new }; lent = scratch.new } ≡ left_reply (audit (shape_of dir.now) (log_of log.now tail) scratch.old) }
 {
     let l = audit::audit(dir, log, tail, scratch);
-    crate::numbers::put(out, of_left(l))
+    numbers::put(out, of_left(l))
 }

@@ -3,25 +3,22 @@ ghost use Rattle.std.specs.Prelude.{◌≡◌};
 ghost use Rattle.model.specs.Directory.{shape_of};
 ghost use Rattle.model.specs.Reading.{stream_next, stream_list};
 ghost use Rattle.codec.specs.Eight.{log_of};
-ghost use Rattle.entries.specs.Answers.{next_in, count_in};
-ghost use Rattle.stocklog.specs.Replies.{next_reply, number_reply, list_reply};
+ghost use Rattle.entries.specs.Answers.{next_in};
+ghost use Rattle.stocklog.specs.Replies.{next_reply, list_reply};
 ghost use Rattle.stocklog.specs.Numbers.{numbers_in};
 
-use crate::numbers::Numbers;
+use crate::numbers::{self, Numbers, Values};
 use codec::names::{ObjectId, Offset};
-use entries::listing::Listed;
-use entries::reader::{Next, NextEntry};
+use entries::reader::Next;
 
 fn of_next(n: Next) -> Numbers
     ensures { numbers_in result ≡ next_reply (next_in n) }
 {
-    let reader = n.reader;
-    let found = n.found;
-    match found {
-        NextEntry::At(o) => crate::numbers::done(1, o.0, reader.0),
-        NextEntry::End => crate::numbers::done(0, 0, reader.0),
-        NextEntry::Refused(r) => crate::numbers::refusal(r, 0, 0, reader.0),
-    }
+    let none = Values(0, 0, n.reader.0);
+    numbers::answered(n.found, none, |found| match found {
+        Some(o) => Values(1, o.0, n.reader.0),
+        None => none,
+    })
 }
 
 // 1, the next entry's offset and the reader after it; or 0, 0 and the tail. Refused: 0, 0 and the reader as it was.
@@ -37,16 +34,7 @@ pub extern "C" fn stocklog_stream_next(
     ensures { record { number = result; out = out.new } ≡ next_reply (stream_next (shape_of dir.now) (log_of log.now tail) object from) }
 {
     let n = entries::reader::stream_next(dir, log, tail, ObjectId(object), Offset(from));
-    crate::numbers::put(out, of_next(n))
-}
-
-fn of_listed(l: Listed) -> Numbers
-    ensures { numbers_in result ≡ number_reply (count_in l) }
-{
-    match l {
-        Listed::Count(n) => crate::numbers::done(n as u64, 0, 0),
-        Listed::Refused(r) => crate::numbers::refusal(r, 0, 0, 0),
-    }
+    numbers::put(out, of_next(n))
 }
 
 // How many offsets the object has; they are at the start of the list.
@@ -62,5 +50,5 @@ pub extern "C" fn stocklog_stream_list(
     ensures { record { reply = record { number = result; out = out.new }; lent = list.new } ≡ list_reply (stream_list (shape_of dir.now) (log_of log.now tail) object list.old) }
 {
     let l = entries::listing::stream_list(dir, log, tail, ObjectId(object), list);
-    crate::numbers::put(out, of_listed(l))
+    numbers::put(out, numbers::of_number(l))
 }

@@ -36,3 +36,4 @@ pub mod Settled
 pub mod Permuting
 pub mod Seeking
 pub mod Counting
+pub mod Ranges

@@ -1,5 +1,5 @@
 -- Rows of a table by their place, and the code's values as the model has them.
-use Rattle.std.specs.Prelude.{◌≡◌, true, cond, List, [], ◌∷◌, ℕ, zero, suc, ◌*◌}
+use Rattle.std.specs.Prelude.{◌≡◌, true, cond, List, [], ◌∷◌, ℕ, zero, suc, ◌*◌, Option as Told, Some, None}
 use Rattle.std.proofs.Math.Option.{Option, none, some}
 use Rattle.lists.specs.Splice.{splice}
 use Rattle.model.specs.Entries.{Held}
@@ -7,8 +7,7 @@ use Rattle.model.specs.Table.{Cell, is_of, cell_bytes, cell_size}
 use Rattle.laws.proofs.Items.{fits_cell}
 use Rattle.codec.specs.Cells.{held_of}
 use Rattle.table.specs.declared.rows.Row.{Row}
-use Rattle.table.specs.declared.rows.Held as code
-use Rattle.table.specs.declared.rows.Held.TheVariants.{Never, Written}
+use Rattle.codec.specs.declared.cells.Written.{Written}
 
 -- a row's place plus 1 in a list with one row more in front; 0 stays none
 abbrev pub further : ℕ → ℕ
@@ -28,6 +27,6 @@ pub record RowPut (t t' : List ℕ) (i : ℕ) (c : Cell) : Type 0 where
 abbrev pub cell_in : Row → Cell
 cell_in r = record { object = r.object.0; key = r.key; value = r.value; present = r.present; version = r.version.0 }
 
-abbrev pub held_case : code.Held → Option Held
-held_case Never = none
-held_case (Written h) = some (held_of h)
+abbrev pub held_case : Told Written → Option Held
+held_case None = none
+held_case (Some h) = some (held_of h)

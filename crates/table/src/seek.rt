@@ -47,8 +47,7 @@ pub fn place(
     let cell = codec::cells::rank(id, key);
     let mut slot = head_of(id, key, heads);
     let mut rest = cell;
-    let mut depth: usize = 0;
-    while depth <= 64 {
+    for _ in 0..=u64::BITS {
         let node = index[slot] as usize;
         if node == 0 {
             return slot;
@@ -58,7 +57,6 @@ pub fn place(
         }
         slot = heads + 2 * (node - 1) + (rest % 2) as usize;
         rest = rest / 2;
-        depth += 1;
     }
     slot
 }

@@ -7,6 +7,8 @@ mod requests;
 
 // The directory of the eight objects has so many bytes.
 const EIGHT_SIZE: usize = 128;
+// The most bytes of a log.
+const LOG_SIZE: usize = 4096;
 
 // The requests from a place on, one after the other; answers the place after them.
 fn all_requests(
@@ -19,12 +21,10 @@ fn all_requests(
 ) -> usize {
     let mut a = at;
     let mut t = tail;
-    let mut k = 0;
-    while k < n {
+    for _ in 0..n {
         let l = requests::request(dir, input, a, log, t);
         a = l.at;
         t = l.tail;
-        k += 1;
     }
     a
 }
@@ -52,24 +52,13 @@ fn case(dir: &[u8], input: &[u8], at: usize) -> usize {
     let fourth = cases::after(input, third, size);
     let n = cases::word(input, fourth) as usize;
     let fifth = cases::after(input, fourth, 4);
-    let mut log = [0u8; 4096];
-    if 4096 < bytes.len() {
+    let mut room = [0u8; LOG_SIZE];
+    if LOG_SIZE < bytes.len() {
         return input.len();
     }
-    codec::bytes::copy_in(&mut log, 0, bytes);
-    let e = bytes.len();
-    run(dir, input, fifth, n, &mut log[0..e], tail)
-}
-
-fn cases(dir: &[u8], input: &[u8]) {
-    let mut at = 0;
-    while at < input.len() {
-        let next = case(dir, input, at);
-        if next <= at {
-            return;
-        }
-        at = next;
-    }
+    let log = &mut room[..bytes.len()];
+    log.copy_from_slice(bytes);
+    run(dir, input, fifth, n, log, tail)
 }
 
 fn main() {
@@ -77,5 +66,6 @@ fn main() {
     let n = io::read_full(0, &mut buffer);
     let mut dir = [0u8; EIGHT_SIZE];
     directory::eight::write_eight(&mut dir);
-    cases(&dir, &buffer[..n]);
+    let input = &buffer[..n];
+    cases::each(input, |at| case(&dir, input, at));
 }

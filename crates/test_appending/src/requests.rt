@@ -1,5 +1,5 @@
 // One append made, and its answer printed.
-use append::write::Appended;
+use answers::Refusal;
 use codec::names::{Names, ObjectId, Offset, TxNumber};
 use records::Record;
 
@@ -11,15 +11,15 @@ pub struct Left {
 }
 
 // The rest of the line; answers the tail.
-fn answer(a: Appended, tail: usize) -> usize {
+fn answer(a: Result<usize, Refusal>, tail: usize) -> usize {
     match a {
-        Appended::Tail(t) => {
+        Ok(t) => {
             io::write_all(1, b" done");
             printing::next(t as u64);
             printing::line_end();
             t
         }
-        Appended::Refused(r) => {
+        Err(r) => {
             printing::next_refusal(r);
             printing::line_end();
             tail
@@ -117,29 +117,40 @@ fn checkpoint_at(dir: &[u8], input: &[u8], at: usize, log: &mut [u8], tail: usiz
     }
 }
 
-// The request at a place of the input, made on a log.
-pub fn request(dir: &[u8], input: &[u8], at: usize, log: &mut [u8], tail: usize) -> Left {
-    let kind = cases::word(input, at);
-    let first = cases::after(input, at, 4);
-    if kind == 3 {
-        return decision_at(dir, input, first, log, tail);
-    }
-    if kind == 4 {
-        return checkpoint_at(dir, input, first, log, tail);
-    }
-    let number = cases::word(input, first);
-    let second = cases::after(input, first, 4);
+// The entry with items at a place, an update or a commit record.
+fn items_at(
+    dir: &[u8],
+    input: &[u8],
+    at: usize,
+    log: &mut [u8],
+    tail: usize,
+    is_update: bool,
+) -> Left {
+    let number = cases::word(input, at);
+    let second = cases::after(input, at, 4);
     let n = cases::word(input, second) as usize;
     let third = cases::after(input, second, 4);
     let items = cases::part(input, third, n);
     let end = cases::after(input, third, n);
-    if kind == 1 {
-        let t = update(dir, log, tail, number, items);
-        return Left { at: end, tail: t };
+    if is_update {
+        return Left {
+            at: end,
+            tail: update(dir, log, tail, number, items),
+        };
     }
-    let t = commit(dir, log, tail, number, items, names_at(input, end));
     Left {
         at: cases::after(input, end, 8),
-        tail: t,
+        tail: commit(dir, log, tail, number, items, names_at(input, end)),
+    }
+}
+
+// The request at a place of the input, made on a log.
+pub fn request(dir: &[u8], input: &[u8], at: usize, log: &mut [u8], tail: usize) -> Left {
+    let kind = cases::word(input, at);
+    let first = cases::after(input, at, 4);
+    match kind {
+        3 => decision_at(dir, input, first, log, tail),
+        4 => checkpoint_at(dir, input, first, log, tail),
+        _ => items_at(dir, input, first, log, tail, kind == 1),
     }
 }

@@ -3,7 +3,7 @@ ghost use Rattle.std.specs.Prelude.{◌≡◌, ◌≤◌, length};
 ghost use Rattle.model.specs.Slot.{item_size};
 
 use crate::told::{TABLE_SIZE, Told};
-use append::write::Appended;
+use answers::Refusal;
 use codec::layout::{ITEM_SIZE, SLOT_SIZE};
 use codec::names::{Names, ObjectId, Offset, TxNumber};
 use records::Record;
@@ -28,7 +28,7 @@ fn put_item(item: &mut [u8], t: Told, third: u32, fourth: u32)
 }
 
 // A plain put of 1 to the cell.
-fn update(dir: &[u8], log: &mut [u8], t: Told) -> Appended {
+fn update(dir: &[u8], log: &mut [u8], t: Told) -> Result<usize, Refusal> {
     io::write_all(1, b"update");
     let mut item = [0u8; ITEM_SIZE];
     put_item(&mut item, t, 1, 1);
@@ -36,7 +36,7 @@ fn update(dir: &[u8], log: &mut [u8], t: Told) -> Appended {
 }
 
 // A commit record that reads the cell with version 0, and names no number.
-fn commit(dir: &[u8], log: &mut [u8], t: Told) -> Appended {
+fn commit(dir: &[u8], log: &mut [u8], t: Told) -> Result<usize, Refusal> {
     io::write_all(1, b"commit");
     let mut item = [0u8; ITEM_SIZE];
     put_item(&mut item, t, 0, 0);
@@ -50,17 +50,17 @@ fn commit(dir: &[u8], log: &mut [u8], t: Told) -> Appended {
     )
 }
 
-fn decision(dir: &[u8], log: &mut [u8], t: Told) -> Appended {
+fn decision(dir: &[u8], log: &mut [u8], t: Told) -> Result<usize, Refusal> {
     io::write_all(1, b"decision");
     append::decision::decision(dir, log, t.tail as usize, Offset(DECIDED), OUTCOME)
 }
 
 // A checkpoint of the object, from a replica without cells that was played to the tail.
-fn checkpoint(dir: &[u8], log: &mut [u8], t: Told) -> Appended {
+fn checkpoint(dir: &[u8], log: &mut [u8], t: Told) -> Result<usize, Refusal> {
     io::write_all(1, b"checkpoint");
     let r = Record {
         hosted: t.hosted,
-        position: t.tail as u64,
+        position: u64::from(t.tail),
         count: 0,
     };
     let table = [0u8; TABLE_SIZE];
@@ -68,38 +68,30 @@ fn checkpoint(dir: &[u8], log: &mut [u8], t: Told) -> Appended {
 }
 
 // One of the four by its number.
-fn append(dir: &[u8], log: &mut [u8], t: Told, which: u32) -> Appended {
-    if which == 1 {
-        return update(dir, log, t);
+fn append(dir: &[u8], log: &mut [u8], t: Told, which: u32) -> Result<usize, Refusal> {
+    match which {
+        1 => update(dir, log, t),
+        2 => commit(dir, log, t),
+        3 => decision(dir, log, t),
+        _ => checkpoint(dir, log, t),
     }
-    if which == 2 {
-        return commit(dir, log, t);
-    }
-    if which == 3 {
-        return decision(dir, log, t);
-    }
-    checkpoint(dir, log, t)
 }
 
 // Where the last slot's bytes begin; at 0 where there are fewer.
 fn last_slot(log: &[u8]) -> usize
     ensures { result ≤ length log.now }
 {
-    if log.len() < SLOT_SIZE {
-        return 0;
-    }
-    log.len() - SLOT_SIZE
+    log.len().saturating_sub(SLOT_SIZE)
 }
 
 // The answer, and the last slot afterwards.
 fn line(dir: &[u8], log: &mut [u8], t: Told, which: u32) {
-    let a = append(dir, log, t, which);
-    match a {
-        Appended::Tail(n) => {
+    match append(dir, log, t, which) {
+        Ok(n) => {
             io::write_all(1, b" done");
             printing::next(n as u64);
         }
-        Appended::Refused(r) => printing::next_refusal(r),
+        Err(r) => printing::next_refusal(r),
     }
     let i = last_slot(log);
     printing::words(&log[i..]);
@@ -107,18 +99,17 @@ fn line(dir: &[u8], log: &mut [u8], t: Told, which: u32) {
 
 // On a copy of the log.
 fn on_copy(dir: &[u8], log: &[u8], t: Told, which: u32) {
-    let mut copy = [0u8; LOG_SIZE];
+    let mut room = [0u8; LOG_SIZE];
     if LOG_SIZE < log.len() {
         return;
     }
-    codec::bytes::copy_in(&mut copy, 0, log);
-    let e = log.len();
-    line(dir, &mut copy[0..e], t, which);
+    let copy = &mut room[..log.len()];
+    copy.copy_from_slice(log);
+    line(dir, copy, t, which);
 }
 
 pub fn all(dir: &[u8], log: &[u8], t: Told) {
-    on_copy(dir, log, t, 1);
-    on_copy(dir, log, t, 2);
-    on_copy(dir, log, t, 3);
-    on_copy(dir, log, t, 4);
+    for which in 1..=4 {
+        on_copy(dir, log, t, which);
+    }
 }

@@ -43,19 +43,9 @@ fn case(input: &[u8], at: usize) -> usize {
     cases::after(input, fifth, told::SIZE)
 }
 
-fn cases(input: &[u8]) {
-    let mut at = 0;
-    while at < input.len() {
-        let next = case(input, at);
-        if next <= at {
-            return;
-        }
-        at = next;
-    }
-}
-
 fn main() {
     let mut buffer = cases::zeros::<524288>();
     let n = io::read_full(0, &mut buffer);
-    cases(&buffer[..n]);
+    let input = &buffer[..n];
+    cases::each(input, |at| case(input, at));
 }

@@ -1,47 +1,38 @@
 // The calls on a replica, and the audit.
 use crate::told::{TABLE_SIZE, Told};
-use answers::Checked;
+use answers::Refusal;
 use codec::names::ObjectId;
 use records::Record;
-use replica::cells::Reading;
-use replica::opening::Opened;
 use replica::playing::Left;
+
+// A record that was opened, or why not.
+fn opened(o: Result<Record, Refusal>) {
+    match o {
+        Ok(r) => {
+            io::write_all(1, b" done");
+            printing::next_record(r);
+        }
+        Err(x) => printing::next_refusal(x),
+    }
+    printing::line_end();
+}
 
 fn open(dir: &[u8], hosted: u64) {
     io::write_all(1, b"open");
-    let o = replica::opening::open_fresh(dir, hosted);
-    match o {
-        Opened::Replica(x) => {
-            io::write_all(1, b" done");
-            printing::next_record(x);
-        }
-        Opened::Refused(x) => printing::next_refusal(x),
-    }
-    printing::line_end();
+    opened(replica::opening::open_fresh(dir, hosted));
 }
 
 // Opens at the checkpoint at 0.
 fn restore(dir: &[u8], log: &[u8], tail: usize, table: &mut [u8]) {
     io::write_all(1, b"restore");
     let l = replica::restoring::open_at(dir, log, tail, 0, table);
-    let a = l.answer;
-    let opened = l.record;
-    match a {
-        Checked::Done => {
-            io::write_all(1, b" done");
-            printing::next_record(opened);
-        }
-        Checked::Refused(x) => printing::next_refusal(x),
-    }
-    printing::line_end();
+    opened(l.answer.map(|()| l.record));
 }
 
 // The answer, the record as it was left, and the table.
 fn left(l: Left, table: &[u8]) {
-    let a = l.answer;
-    let r = l.record;
-    printing::next_checked(a);
-    printing::next_record(r);
+    printing::next_checked(l.answer);
+    printing::next_record(l.record);
     printing::line_end();
     io::write_all(1, b"table");
     printing::words(table);
@@ -55,17 +46,16 @@ fn play(dir: &[u8], log: &[u8], t: Told, table: &mut [u8]) -> Record {
         position: 0,
         count: 0,
     };
-    let l = replica::playing::play(dir, log, t.tail as usize, r, table, t.tail as u64);
+    let l = replica::playing::play(dir, log, t.tail as usize, r, table, u64::from(t.tail));
     left(l, table);
     l.record
 }
 
 fn cell(dir: &[u8], r: Record, table: &[u8], t: Told) {
     io::write_all(1, b"cell");
-    let c = replica::cells::read_cell(dir, r, table, ObjectId(t.object), t.key);
-    match c {
-        Reading::Cell(h) => printing::next_held(h),
-        Reading::Refused(x) => printing::next_refusal(x),
+    match replica::cells::read_cell(dir, r, table, ObjectId(t.object), t.key) {
+        Ok(h) => printing::next_held(h),
+        Err(x) => printing::next_refusal(x),
     }
     printing::line_end();
 }

@@ -1,10 +1,6 @@
 // The calls that read a log.
 use crate::told::Told;
 use codec::names::{ObjectId, Offset};
-use entries::calls::Found;
-use entries::listing::Listed;
-use entries::owing::Owed;
-use entries::reader::NextEntry;
 
 // The offset whose entry and item list are asked for.
 const ASKED: u64 = 3;
@@ -21,33 +17,28 @@ fn check(dir: &[u8], log: &[u8], tail: usize) {
 fn owed(dir: &[u8], log: &[u8], tail: usize, place: u64, set: u64) {
     io::write_all(1, b"owed");
     printing::next(place);
-    let w = entries::owing::lowest_owing(dir, log, tail, &[set]);
-    match w {
-        Owed::At(o) => printing::next(o.0),
-        Owed::Nothing => {
+    match entries::owing::lowest_owing(dir, log, tail, &[set]) {
+        Ok(Some(o)) => printing::next(o.0),
+        Ok(None) => {
             io::write_all(1, b" none");
         }
-        Owed::Refused(r) => printing::next_refusal(r),
+        Err(r) => printing::next_refusal(r),
     }
     printing::line_end();
 }
 
 fn entry(dir: &[u8], log: &[u8], tail: usize) {
     io::write_all(1, b"entry");
-    let f = entries::calls::entry(dir, log, tail, Offset(ASKED));
-    match f {
-        Found::Entry(i) => {
-            let k = i.kind;
-            let n = i.number;
-            let names = i.names;
-            printing::next(printing::kind(k));
-            printing::next(printing::wide(n.0));
-            printing::next(printing::wide(i.headers));
-            printing::next(printing::wide(i.items));
-            printing::next(printing::wide(names.0));
-            printing::next(printing::wide(names.1));
+    match entries::calls::entry(dir, log, tail, Offset(ASKED)) {
+        Ok(i) => {
+            printing::next(i.kind.number());
+            printing::next(u64::from(i.number.0));
+            printing::next(u64::from(i.headers));
+            printing::next(u64::from(i.items));
+            printing::next(u64::from(i.names.0));
+            printing::next(u64::from(i.names.1));
         }
-        Found::Refused(r) => printing::next_refusal(r),
+        Err(r) => printing::next_refusal(r),
     }
     printing::line_end();
 }
@@ -60,16 +51,14 @@ fn items(dir: &[u8], log: &[u8], tail: usize) {
 fn next(dir: &[u8], log: &[u8], tail: usize, object: u32) {
     io::write_all(1, b"next");
     let n = entries::reader::stream_next(dir, log, tail, ObjectId(object), Offset(FROM));
-    let f = n.found;
-    let at = n.reader;
-    match f {
-        NextEntry::At(o) => printing::next(o.0),
-        NextEntry::End => {
+    match n.found {
+        Ok(Some(o)) => printing::next(o.0),
+        Ok(None) => {
             io::write_all(1, b" end");
         }
-        NextEntry::Refused(r) => printing::next_refusal(r),
+        Err(r) => printing::next_refusal(r),
     }
-    printing::next(at.0);
+    printing::next(n.reader.0);
     printing::line_end();
 }
 
@@ -77,14 +66,13 @@ fn next(dir: &[u8], log: &[u8], tail: usize, object: u32) {
 fn list(dir: &[u8], log: &[u8], tail: usize, object: u32) {
     io::write_all(1, b"list");
     let mut lent = [77777u32; 3];
-    let l = entries::listing::stream_list(dir, log, tail, ObjectId(object), &mut lent);
-    match l {
-        Listed::Count(n) => printing::next(n as u64),
-        Listed::Refused(r) => printing::next_refusal(r),
+    match entries::listing::stream_list(dir, log, tail, ObjectId(object), &mut lent) {
+        Ok(n) => printing::next(n as u64),
+        Err(r) => printing::next_refusal(r),
     }
-    printing::next(printing::wide(lent[0]));
-    printing::next(printing::wide(lent[1]));
-    printing::next(printing::wide(lent[2]));
+    for n in lent {
+        printing::next(u64::from(n));
+    }
     printing::line_end();
 }
 

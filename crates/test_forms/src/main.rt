@@ -26,21 +26,11 @@ fn case(dir: &[u8], input: &[u8], at: usize) -> usize {
     runs::all(dir, input, fifth, n as usize, log)
 }
 
-fn cases(dir: &[u8], input: &[u8]) {
-    let mut at = 0;
-    while at < input.len() {
-        let next = case(dir, input, at);
-        if next <= at {
-            return;
-        }
-        at = next;
-    }
-}
-
 fn main() {
     let mut buffer = cases::zeros::<262144>();
     let n = io::read_full(0, &mut buffer);
     let mut dir = [0u8; EIGHT_SIZE];
     directory::eight::write_eight(&mut dir);
-    cases(&dir, &buffer[..n]);
+    let input = &buffer[..n];
+    cases::each(input, |at| case(&dir, input, at));
 }

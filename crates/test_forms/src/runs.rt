@@ -1,16 +1,17 @@
 // A record moved on in place by instalments.
 use records::Record;
 
+// The most bytes of a table.
+const TABLE_SIZE: usize = 4096;
+
 // One instalment: its answer and the record that it left.
 fn play(dir: &[u8], log: &[u8], tail: u32, r: Record, table: &mut [u8], stop: u64) -> Record {
     io::write_all(1, b"play");
     let l = inplace::play_on(dir, log, tail as usize, r, table, stop);
-    let a = l.answer;
-    let left = l.record;
-    printing::next_checked(a);
-    printing::next_record(left);
+    printing::next_checked(l.answer);
+    printing::next_record(l.record);
     printing::line_end();
-    left
+    l.record
 }
 
 // The instalments from a place on, one after the other.
@@ -25,14 +26,12 @@ fn plays(
 ) -> Record {
     let mut a = at;
     let mut x = r;
-    let mut k = 0;
-    while k < n {
+    for _ in 0..n {
         let second = cases::after(input, a, 4);
         let tail = cases::word(input, a);
         let stop = cases::long(input, second);
         x = play(dir, log, tail, x, table, stop);
         a = cases::after(input, second, 8);
-        k += 1;
     }
     x
 }
@@ -77,22 +76,20 @@ fn run(dir: &[u8], input: &[u8], at: usize, log: &[u8]) -> usize {
     let second = cases::after(input, at, 4);
     let bytes = cases::part(input, second, length);
     let third = cases::after(input, second, length);
-    let mut table = [0u8; 4096];
-    if 4096 < bytes.len() {
+    let mut room = [0u8; TABLE_SIZE];
+    if TABLE_SIZE < bytes.len() {
         return input.len();
     }
-    codec::bytes::copy_in(&mut table, 0, bytes);
-    let e = bytes.len();
-    instalments(dir, input, third, log, &mut table[0..e])
+    let table = &mut room[..bytes.len()];
+    table.copy_from_slice(bytes);
+    instalments(dir, input, third, log, table)
 }
 
 // So many runs from a place on; answers the place after them.
 pub fn all(dir: &[u8], input: &[u8], at: usize, n: usize, log: &[u8]) -> usize {
     let mut a = at;
-    let mut k = 0;
-    while k < n {
+    for _ in 0..n {
         a = run(dir, input, a, log);
-        k += 1;
     }
     a
 }

@@ -1,40 +1,39 @@
 // A stream, as a reader gives it call by call.
-use codec::names::ObjectId;
-use entries::reader::NextEntry;
+use answers::Refusal;
+use codec::names::{ObjectId, Offset};
+
+// The most calls of a reader.
+const MOST_CALLS: u32 = 64;
 
 // Prints an answer; whether the reader is to be asked again.
-fn shown(a: NextEntry) -> bool {
+fn shown(a: Result<Option<Offset>, Refusal>) -> bool {
     match a {
-        NextEntry::At(o) => {
+        Ok(Some(o)) => {
             printing::next(o.0);
             true
         }
-        NextEntry::End => {
+        Ok(None) => {
             io::write_all(1, b" end");
             false
         }
-        NextEntry::Refused(r) => {
+        Err(r) => {
             printing::next_refusal(r);
             false
         }
     }
 }
 
-// A reader from an offset to its end or a refusal, at most 64 calls, and its next offset.
+// A reader from an offset to its end or a refusal, or so many calls, and its next offset.
 fn stream(dir: &[u8], log: &[u8], tail: usize, x: u32, from: u64) {
     io::write_all(1, b"stream");
-    printing::next(printing::wide(x));
+    printing::next(u64::from(x));
     printing::next(from);
     let mut at = from;
-    let mut left = 64u64;
-    while 0 < left {
+    for _ in 0..MOST_CALLS {
         let n = reader::next_from(dir, log, tail, ObjectId(x), at);
-        let a = n.found;
-        let r = n.reader;
-        at = r.0;
-        left -= 1;
-        if !shown(a) {
-            left = 0;
+        at = n.reader.0;
+        if !shown(n.found) {
+            break;
         }
     }
     printing::next(at);
@@ -43,7 +42,7 @@ fn stream(dir: &[u8], log: &[u8], tail: usize, x: u32, from: u64) {
 
 // From 0, the middle, the tail and the offset after it.
 fn streams(dir: &[u8], log: &[u8], tail: u32, x: u32) {
-    let last = tail as u64;
+    let last = u64::from(tail);
     let t = tail as usize;
     stream(dir, log, t, x, 0);
     stream(dir, log, t, x, last / 2);

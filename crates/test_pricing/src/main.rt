@@ -3,7 +3,6 @@
 #![tactic(auto)]
 
 use codec::names::ObjectId;
-use pricing::walk::Priced;
 use records::Record;
 
 // The record at a place: hosted set, position, count.
@@ -36,13 +35,12 @@ fn after_part(input: &[u8], at: usize) -> usize {
 
 fn line(dir: &[u8], r: Record, table: &[u8], object: u32, prices: &[u8]) {
     io::write_all(1, b"price");
-    let a = pricing::call::price(dir, r, table, ObjectId(object), prices);
-    match a {
-        Priced::Total(high, low) => {
-            printing::next(high);
-            printing::next(low);
+    match pricing::call::price(dir, r, table, ObjectId(object), prices) {
+        Ok(total) => {
+            printing::next(total.high);
+            printing::next(total.low);
         }
-        Priced::Refused(x) => printing::next_refusal(x),
+        Err(x) => printing::next_refusal(x),
     }
     printing::line_end();
 }
@@ -61,19 +59,9 @@ fn case(input: &[u8], at: usize) -> usize {
     after_part(input, fifth)
 }
 
-fn cases(input: &[u8]) {
-    let mut at = 0;
-    while at < input.len() {
-        let next = case(input, at);
-        if next <= at {
-            return;
-        }
-        at = next;
-    }
-}
-
 fn main() {
     let mut buffer = cases::zeros::<524288>();
     let n = io::read_full(0, &mut buffer);
-    cases(&buffer[..n]);
+    let input = &buffer[..n];
+    cases::each(input, |at| case(input, at));
 }

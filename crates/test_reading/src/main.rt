@@ -7,6 +7,8 @@ mod stream_calls;
 
 // The directory of the eight objects has so many bytes.
 const EIGHT_SIZE: usize = 128;
+// Tail and length of a log have so many bytes.
+const HEAD_SIZE: usize = 8;
 
 // All calls on one log.
 fn case(dir: &[u8], log: &[u8], tail: usize) {
@@ -22,17 +24,15 @@ fn case(dir: &[u8], log: &[u8], tail: usize) {
 }
 
 fn cases(dir: &[u8], input: &[u8]) {
-    let mut at = 0;
-    while 8 <= input.len() - at {
-        let tail = codec::bytes::be32(input, at) as usize;
-        let size = codec::bytes::be32(input, at + 4) as usize;
-        let a = at + 8;
-        if input.len() - a < size {
+    let mut rest = input;
+    while let Some((head, more)) = rest.split_at_checked(HEAD_SIZE) {
+        let tail = codec::bytes::be32(head, 0) as usize;
+        let size = codec::bytes::be32(head, 4) as usize;
+        let Some((log, next)) = more.split_at_checked(size) else {
             return;
-        }
-        let e = a + size;
-        case(dir, &input[a..e], tail);
-        at = e;
+        };
+        case(dir, log, tail);
+        rest = next;
     }
 }
 

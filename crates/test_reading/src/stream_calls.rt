@@ -1,23 +1,19 @@
 // The stream reader's next, and the stream list.
 use codec::names::{ObjectId, Offset};
-use entries::listing::Listed;
-use entries::reader::NextEntry;
 
 fn next(dir: &[u8], log: &[u8], tail: usize, x: u32, from: u64) {
     io::write_all(1, b"next");
-    printing::next(x as u64);
+    printing::next(u64::from(x));
     printing::next(from);
     let n = entries::reader::stream_next(dir, log, tail, ObjectId(x), Offset(from));
-    let f = n.found;
-    let r = n.reader;
-    match f {
-        NextEntry::At(o) => printing::next(o.0),
-        NextEntry::End => {
+    match n.found {
+        Ok(Some(o)) => printing::next(o.0),
+        Ok(None) => {
             io::write_all(1, b" end");
         }
-        NextEntry::Refused(r) => printing::next_refusal(r),
+        Err(r) => printing::next_refusal(r),
     }
-    printing::next(r.0);
+    printing::next(n.reader.0);
     printing::line_end();
 }
 
@@ -36,22 +32,19 @@ pub fn nexts(dir: &[u8], log: &[u8], tail: usize, x: u32) {
 }
 
 fn numbers(list: &[u32]) {
-    let mut k = 0;
-    while k < list.len() {
-        printing::next(printing::wide(list[k]));
-        k += 1;
+    for n in list {
+        printing::next(u64::from(*n));
     }
     printing::line_end();
 }
 
 fn list(dir: &[u8], log: &[u8], tail: usize, x: u32, lent: &mut [u32]) {
     io::write_all(1, b"list");
-    printing::next(x as u64);
+    printing::next(u64::from(x));
     printing::next(lent.len() as u64);
-    let l = entries::listing::stream_list(dir, log, tail, ObjectId(x), lent);
-    match l {
-        Listed::Count(n) => printing::next(n as u64),
-        Listed::Refused(r) => printing::next_refusal(r),
+    match entries::listing::stream_list(dir, log, tail, ObjectId(x), lent) {
+        Ok(n) => printing::next(n as u64),
+        Err(r) => printing::next_refusal(r),
     }
     numbers(lent);
 }

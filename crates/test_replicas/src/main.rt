@@ -9,6 +9,8 @@ use records::Record;
 
 // The directory of the eight objects has so many bytes.
 const EIGHT_SIZE: usize = 128;
+// The most bytes of a table.
+const TABLE_SIZE: usize = 4096;
 
 // The requests from a place on, one after the other; answers the place after them.
 fn all_requests(
@@ -22,12 +24,10 @@ fn all_requests(
 ) -> usize {
     let mut a = at;
     let mut x = r;
-    let mut k = 0;
-    while k < n {
+    for _ in 0..n {
         let s = requests::request(dir, input, a, log, table, x);
         a = s.at;
         x = s.record;
-        k += 1;
     }
     a
 }
@@ -69,24 +69,13 @@ fn case(dir: &[u8], input: &[u8], at: usize) -> usize {
     let fourth = cases::after(input, third, 4);
     let bytes = cases::part(input, fourth, length);
     let fifth = cases::after(input, fourth, length);
-    let mut table = [0u8; 4096];
-    if 4096 < bytes.len() {
+    let mut room = [0u8; TABLE_SIZE];
+    if TABLE_SIZE < bytes.len() {
         return input.len();
     }
-    codec::bytes::copy_in(&mut table, 0, bytes);
-    let e = bytes.len();
-    run(dir, input, fifth, log, &mut table[0..e])
-}
-
-fn cases(dir: &[u8], input: &[u8]) {
-    let mut at = 0;
-    while at < input.len() {
-        let next = case(dir, input, at);
-        if next <= at {
-            return;
-        }
-        at = next;
-    }
+    let table = &mut room[..bytes.len()];
+    table.copy_from_slice(bytes);
+    run(dir, input, fifth, log, table)
 }
 
 fn main() {
@@ -94,5 +83,6 @@ fn main() {
     let n = io::read_full(0, &mut buffer);
     let mut dir = [0u8; EIGHT_SIZE];
     directory::eight::write_eight(&mut dir);
-    cases(&dir, &buffer[..n]);
+    let input = &buffer[..n];
+    cases::each(input, |at| case(&dir, input, at));
 }

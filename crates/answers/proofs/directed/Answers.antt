@@ -4,8 +4,8 @@ use Rattle.answers.proofs.directed.Goals as goal
 
 pub returns-in-None : goal.returns-in-None
 returns-in-None c =
-    fault-told c.args.dir.now c.fault-f.ensures _ c.in-None.is
+    fault-told c.args.dir.now c.fault.ensures _ c.in-None.is
 
-pub returns-in-At : goal.returns-in-At
-returns-in-At c =
-    fault-told c.args.dir.now c.fault-f.ensures _ c.in-At.is
+pub returns-in-Some : goal.returns-in-Some
+returns-in-Some c =
+    fault-told c.args.dir.now c.fault.ensures _ c.in-Some.is

@@ -1,9 +1,6 @@
--- The place stays within the input, and moves on.
-use Rattle.std.proofs.Common.{◌-◌, ◌≤◌, length}
+-- What is left of the input gets shorter.
+use Rattle.std.proofs.Common.{length}
 use Rattle.test_reading.proofs.cases.Given as goal
 
-abbrev pub invariant-loop-at : goal.invariant-loop-at
-invariant-loop-at l = l.at ≤ length l.input
-
-abbrev pub decreases-loop-at : goal.decreases-loop-at
-decreases-loop-at l = length l.input - l.at
+abbrev pub decreases-loop-head : goal.decreases-loop-head
+decreases-loop-head l = length l.rest

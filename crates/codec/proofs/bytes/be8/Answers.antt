@@ -1,7 +1,7 @@
-use native.Mathlib.Omega.{arith}
+use Rattle.std.proofs.Common.{add-zero, arith}
 use Rattle.lists.specs.Bytes.{be_at}
 use Rattle.codec.proofs.bytes.be8.Goals as goal
 
 pub returns : goal.returns
 unfolding be_at
-returns c = omega arith
+returns c = simp add-zero (omega arith)

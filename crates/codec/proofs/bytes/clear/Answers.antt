@@ -1,21 +1,12 @@
-use native.Mathlib.Omega.{arith}
-use mathlib.Core.Path.{sym}
-use Prim.Native.Nat.{ℕ, ◌-◌}
-use lib.ListN.{length, length-replicate, get_or-replicate}
-use Rattle.lists.specs.Splice.{copying-none, copying-more, copying-all}
+use Rattle.std.specs.Prelude.{◌≡◌, refl, ℕ, ◌-◌, length, take, drop, replicate}
+use Rattle.std.proofs.Common.{ap, ◌∙◌, length-take-le, length-drop, arith}
+use Rattle.lists.specs.Splice.{splice, lent-part}
 use Rattle.codec.proofs.bytes.clear.Goals as goal
 
-pub loop-k-init : goal.loop-k-init
-loop-k-init c = copying-none _ _ _
-
-pub loop-k-preserved : goal.loop-k-preserved
-loop-k-preserved c =
-    let n = length c.args.d.now - c.args.i in
-    copying-more 0 c.loop-k.invariant (omega (arith, length-replicate {A = ℕ} n 0)) (omega (arith, length-replicate {A = ℕ} n 0))
-    (sym (get_or-replicate n c.loop-k.k 0 0 c.loop-k-test.true))
-
-pub shape_of-d : goal.shape_of-d
-shape_of-d c = c.loop-k.invariant.size
-
 pub returns : goal.returns
-returns c = copying-all c.loop-k.invariant (rw length-replicate c.loop-k-test.false)
+returns c =
+    let d = c.args.d.now in
+    let i = c.args.i in
+    let n : length (take (length d - i) (drop i d)) ≡ length d - i = length-take-le _ _ (omega (arith, length-drop i d)) in
+    lent-part d _ _ (length d) i c.requires (c.fill.ensures.len ∙ n) refl
+    ∙ ap (splice d i) (c.fill.ensures.after (λ _ e. e) ∙ ap (λ (k : ℕ). replicate k 0) n)

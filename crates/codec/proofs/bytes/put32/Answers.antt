@@ -1,20 +1,13 @@
-use native.Mathlib.Nat.{div-one}
-use native.Mathlib.Numerals.{towards_suc}
-use native.Mathlib.Omega.{arith}
-use lib.ListN.{length-set}
+use Rattle.std.specs.Prelude.{refl}
+use Rattle.std.proofs.Common.{ap, ◌∙◌, div-one, arith}
 use Rattle.lists.specs.Bytes.{bytes_of}
-use Rattle.lists.specs.Splice.{stores}
+use Rattle.lists.specs.Splice.{splice, lent-part}
 use Rattle.codec.proofs.bytes.put32.Goals as goal
-
-pub bounds-d-i-2 : goal.bounds-d-i-2
-bounds-d-i-2 c = simp length-set (omega arith)
-
-pub bounds-d-i-3 : goal.bounds-d-i-3
-bounds-d-i-3 c = simp length-set (omega arith)
-
-pub bounds-d-i-4 : goal.bounds-d-i-4
-bounds-d-i-4 c = simp length-set (omega arith)
 
 pub returns : goal.returns
 unfolding bytes_of
-returns c = simp (towards_suc, div-one) (stores _ c.args.d.now c.args.i (omega arith))
+returns c =
+    let d = c.args.d.now in
+    let i = c.args.i in
+    lent-part d _ _ _ i (omega arith) (omega (arith, c.copy_from_slice.ensures.len)) refl
+    ∙ ap (splice d i) (c.copy_from_slice.ensures.after ∙ c.to_be_bytes.ensures ∙ simp div-one)

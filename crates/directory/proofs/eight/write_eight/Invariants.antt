@@ -8,6 +8,3 @@ use Rattle.directory.proofs.eight.write_eight.Given as goal
 
 abbrev pub invariant-loop-k : goal.invariant-loop-k
 invariant-loop-k l = (l.k ≤ 8) × Filled l.initial.d (record_size * l.k) (joined record_bytes (values eight_at 0 l.k)) l.d
-
-abbrev pub decreases-loop-k : goal.decreases-loop-k
-decreases-loop-k l = 8 - l.k

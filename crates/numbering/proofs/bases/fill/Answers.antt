@@ -20,9 +20,6 @@ overflow_add-sum c = omega (arith, few-records c.requires.ruled)
 pub overflow_add-sum-in-loop-k : goal.overflow_add-sum-in-loop-k
 overflow_add-sum-in-loop-k c = omega (arith, few-records c.requires.ruled)
 
-pub overflow_add-k : goal.overflow_add-k
-overflow_add-k c = omega (arith, few-records c.requires.ruled)
-
 pub loop-k-preserved : goal.loop-k-preserved
 loop-k-preserved c =
     let l = c.loop-k in

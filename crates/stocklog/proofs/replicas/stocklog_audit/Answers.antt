@@ -1,8 +1,0 @@
--- What is put is the call's answer, with the record; the scratch table is as the call left it.
-use mathlib.Core.Path.{ap, ◌∙◌}
-use Rattle.stocklog.specs.Replies.{left_reply}
-use Rattle.stocklog.specs.Numbers.{replied}
-use Rattle.stocklog.proofs.replicas.stocklog_audit.Goals as goal
-
-pub returns : goal.returns
-returns c = replied _ (c.put.ensures ∙ c.of_left.ensures) ∙ ap left_reply c.audit-l.ensures

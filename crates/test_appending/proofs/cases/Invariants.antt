@@ -1,6 +1,0 @@
--- The place moves on.
-use Rattle.std.proofs.Common.{◌-◌, length}
-use Rattle.test_appending.proofs.cases.Given as goal
-
-abbrev pub decreases-loop-at : goal.decreases-loop-at
-decreases-loop-at l = length l.input - l.at
