@@ -69,12 +69,14 @@ pub fn put64(d: &mut [u8], i: usize, v: u64)
     d[i..i + 8].copy_from_slice(&v.to_be_bytes());
 }
 
-// Copies all of s into d from place i.
+// Copies all of s into d from place i. `copy_from_slice` would be a call of memmove, which the archive is not to ask for.
 pub fn copy_in(d: &mut [u8], i: usize, s: &[u8])
     requires { i + length s.now ≤ length d.old }
     ensures { d.new ≡ splice d.old i s.now }
 {
-    d[i..i + s.len()].copy_from_slice(s);
+    for k in 0..s.len() {
+        d[i + k] = s[k];
+    }
 }
 
 // Zeroes d from place i to its end.
