@@ -3,6 +3,7 @@
 
 ghost use Rattle.std.specs.Prelude.{◌≡◌, ◌%◌, length};
 ghost use Rattle.cases.specs.Input.{inside, number_at, part_at, place_after};
+ghost use Rattle.cases.specs.Runs.{RunsAll};
 
 // So many bytes from a place on lie in the input.
 fn has(input: &[u8], at: usize, n: usize) -> bool
@@ -62,6 +63,7 @@ pub fn low(n: u32) -> u64
 // Runs each case of an input: `case` is given its place and answers the place after it. An answer that is not further on ends the run.
 pub fn each<F: FnMut(usize) -> usize>(input: &[u8], mut case: F)
     requires { F.IsAlwaysCallable case }
+    ensures { RunsAll F.FnMut (length input.now) case }
 {
     let mut at = 0;
     while at < input.len() {

@@ -58,7 +58,7 @@ module _ (d bytes : List ℕ) (tail o : ℕ) where
   entry_placed (Ok i) e = told-below (info_of i) (sym e)
   entry_placed (Err r) e = tt
 
-  items-part : part_said (items_reply o (entry_call (shape_of d) log o)) bytes ≡ item_list (shape_of d) log o
+  pub items-part : part_said (items_reply o (entry_call (shape_of d) log o)) bytes ≡ item_list (shape_of d) log o
   unfolding entry_call item_list model-info_in log_in
   items-part = go (entry_refusal (shape_of d) log o) refl
     where

@@ -9,7 +9,9 @@ pub fn check(dir: &[u8], log: &[u8], tail: usize) {
     printing::line_end();
 }
 
-// What is owed to replicas of these sets, with the place of their list.
+// What is owed to replicas of these sets, with the place of their list. It is a function of its own, since the program's frame is not to hold
+// this call's arrays beside those of the calls that follow.
+#[inline(never)]
 fn owed_to(dir: &[u8], log: &[u8], tail: usize, place: u64, sets: &[u64]) {
     io::write_all(1, b"owed");
     printing::next(place);
