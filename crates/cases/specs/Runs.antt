@@ -1,4 +1,5 @@
--- What it means to run each case of an input, and that a loop does it: what runs from where it stands is the rest of a run from the start.
+-- What it means to run each case of an input, and that a loop does it: what runs from where it stands is the rest of a run from the start. A
+-- closure that is handed over by value leaves nothing to tell what else it is called with, so this says which calls are made first.
 use Rattle.std.specs.Prelude.{◌≡◌, List, [], ◌∷◌, ℕ, ◌≤◌, ◌<◌, ◌⊎◌}
 use Rattle.std.specs.Fn.{Called}
 use Rattle.std.proofs.Common.{refl}
@@ -6,8 +7,8 @@ use mathlib.Core.Logic.{inl, inr}
 use denote.Param.Members.{Mut}
 
 module _ {F : Type 0} (c : Mut F (ℕ × Unit {0}) ℕ) (size : ℕ) where
-  -- From a place of an input of so many bytes on, the cases begin at these places: none where the input ends there. Each case is called once,
-  -- with its place; the next one begins where it answers, and there is none where that is not further on.
+  -- From a place of an input of so many bytes on, the cases begin at these places: none where the input ends there. A case is called with its
+  -- place; the next one begins where it answers, and there is none where that is not further on.
   pub Runs : F → ℕ → List ℕ → F → Type 0
   Runs e at [] j = (size ≤ at) × (e ≡ j)
   Runs e at (p ∷ ps) j =

@@ -47,15 +47,16 @@ module _ (d bytes : List ℕ) (tail o : ℕ) where
     inside : Inside d bytes (frame_of tail) o
     inside = record { ruled = record { directed = refuse_at-none 15 (shape_of d).fault passed.0 }; framed = framed; below = below; good = good }
 
-  told-below : (i : Info) → entry_call (shape_of d) log o ≡ done i → o < most_slots
+  -- an entry that is told lies below the tail
+  pub entry-placed : (i : Info) → entry_call (shape_of d) log o ≡ done i → o < most_slots
   unfolding entry_call
-  told-below i e =
+  entry-placed i e =
       let n : entry_refusal (shape_of d) log o ≡ none = sym (refused-answer (entry_refusal (shape_of d) log o) (info_in (slot log.used o))) ∙ ap refused_in e in
       omega (arith, below n, (framed n).most)
 
-  -- an entry that is told lies below the tail
+  -- so where the code finds one
   pub entry_placed : (f : Answered code.Info) → found_in f ≡ entry_call (shape_of d) log o → IfOk f (λ i. o < most_slots)
-  entry_placed (Ok i) e = told-below (info_of i) (sym e)
+  entry_placed (Ok i) e = entry-placed (info_of i) (sym e)
   entry_placed (Err r) e = tt
 
   pub items-part : part_said (items_reply o (entry_call (shape_of d) log o)) bytes ≡ item_list (shape_of d) log o
